@@ -1,0 +1,89 @@
+-- Two answers that stand for the same on paper are equal. So a promise about `paper` determines the whole answer.
+use Prim.Native.Nat.{ℕ, zero, suc}
+use native.Mathlib.Omega.{arith}
+use mathlib.Core.Path.{_≡_, refl, sym, ap}
+use mathlib.Core.Bool.{Bool, true, false}
+use mathlib.Core.List.{List, [], _∷_}
+use lib.ListN.{getD}
+use Rattle.meaning.specs.Verdict.{verdictOf}
+use Rattle.answers.specs.declared.Verdict.{Verdict}
+use Rattle.answers.specs.declared.Verdict.the-variants.{Inconclusive, True, False, OutOfModel}
+use Rattle.answers.specs.declared.Kind.{Kind}
+use Rattle.answers.specs.declared.Kind.the-variants.{
+  Counts,
+  Bits,
+  TableText,
+  RuleLength,
+  RuleText,
+  Proposition,
+  Nodes,
+  Parts,
+  Value,
+  Event,
+  Room,
+  LogText,
+  NoPair,
+  File,
+}
+use Rattle.answers.specs.declared.Answer.{Answer}
+use Rattle.answers.specs.declared.Answer.the-variants.{Shown, Refused}
+use Rattle.answers.specs.Paper.{verdict, refused, numberOf, kindNumber, paper, verdictFor}
+
+-- the verdict that a call shows has the number that 01 gives it
+pub verdict-number : (keeps breaks : Bool) → numberOf (verdictFor keeps breaks) ≡ verdictOf keeps breaks
+unfolding verdictOf
+verdict-number true true = refl
+verdict-number true false = refl
+verdict-number false true = refl
+verdict-number false false = refl
+
+-- a verdict, and a kind of refusal, from its number
+abbrev verdicts : List Verdict
+verdicts = Inconclusive ∷ True ∷ False ∷ OutOfModel ∷ []
+
+abbrev kinds : List Kind
+kinds =
+    File ∷ Counts ∷ Bits ∷ TableText ∷ RuleLength ∷ RuleText ∷ Proposition ∷ Nodes ∷ Parts ∷ Value ∷ Event ∷ Room ∷ LogText ∷ NoPair ∷ []
+
+verdict-back : (v : Verdict) → getD verdicts (numberOf v) Inconclusive ≡ v
+verdict-back Inconclusive = refl
+verdict-back True = refl
+verdict-back False = refl
+verdict-back OutOfModel = refl
+
+kind-back : (k : Kind) → getD kinds (kindNumber k) File ≡ k
+kind-back Counts = refl
+kind-back Bits = refl
+kind-back TableText = refl
+kind-back RuleLength = refl
+kind-back RuleText = refl
+kind-back Proposition = refl
+kind-back Nodes = refl
+kind-back Parts = refl
+kind-back Value = refl
+kind-back Event = refl
+kind-back Room = refl
+kind-back LogText = refl
+kind-back NoPair = refl
+kind-back File = refl
+
+pub one-verdict : (v w : Verdict) → numberOf v ≡ numberOf w → v ≡ w
+one-verdict v w same = cc (verdict-back v, verdict-back w, ap (λ n. getD verdicts n Inconclusive) same)
+
+pub one-kind : (j k : Kind) → kindNumber j ≡ kindNumber k → j ≡ k
+one-kind j k same = cc (kind-back j, kind-back k, ap (λ n. getD kinds n File) same)
+
+clash : {a b c d : ℕ} → verdict a b ≡ refused c d → ⊥
+clash same = let z : _≡_ {A = ℕ} 0 1 = cc in omega arith
+
+pub one-answer : (a b : Answer) → paper a ≡ paper b → a ≡ b
+one-answer (Shown i) (Shown j) same =
+    let number : numberOf (i .verdict) ≡ numberOf (j .verdict) = cc in
+    let left : i .left ≡ j .left = cc in
+    λ k. Shown (record { verdict = one-verdict (i .verdict) (j .verdict) number k; left = left k })
+one-answer (Shown i) (Refused r) same = absurd (clash same)
+one-answer (Refused r) (Shown j) same = absurd (clash (sym same))
+one-answer (Refused q) (Refused r) same =
+    let number : kindNumber (q .kind) ≡ kindNumber (r .kind) = cc in
+    let place : q .place ≡ r .place = cc in
+    λ k. Refused (record { kind = one-kind (q .kind) (r .kind) number k; place = place k })

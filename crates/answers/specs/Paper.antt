@@ -1,0 +1,71 @@
+-- 01's number and values for each case of an answer; the promises are made in these.
+use Prim.Native.Nat.{ℕ}
+use mathlib.Core.Bool.{Bool, true, false}
+use Rattle.answers.specs.declared.Verdict.{Verdict}
+use Rattle.answers.specs.declared.Verdict.the-variants.{Inconclusive, True, False, OutOfModel}
+use Rattle.answers.specs.declared.Kind.{Kind}
+use Rattle.answers.specs.declared.Kind.the-variants.{
+  Counts,
+  Bits,
+  TableText,
+  RuleLength,
+  RuleText,
+  Proposition,
+  Nodes,
+  Parts,
+  Value,
+  Event,
+  Room,
+  LogText,
+  NoPair,
+  File,
+}
+use Rattle.answers.specs.declared.Refusal.{Refusal}
+use Rattle.answers.specs.declared.Answer.{Answer}
+use Rattle.answers.specs.declared.Answer.the-variants.{Shown, Refused}
+
+-- what stands on paper: a verdict's number with `left`, or a refusal's number with its place
+pub data Paper : Type 0 where
+  verdict : ℕ → ℕ → Paper
+  refused : ℕ → ℕ → Paper
+
+abbrev pub numberOf : Verdict → ℕ
+numberOf Inconclusive = 0
+numberOf True = 1
+numberOf False = 2
+numberOf OutOfModel = 3
+
+-- 01's table of refusals
+abbrev pub kindNumber : Kind → ℕ
+kindNumber Counts = 1
+kindNumber Bits = 2
+kindNumber TableText = 3
+kindNumber RuleLength = 4
+kindNumber RuleText = 5
+kindNumber Proposition = 6
+kindNumber Nodes = 7
+kindNumber Parts = 8
+kindNumber Value = 9
+kindNumber Event = 10
+kindNumber Room = 11
+kindNumber LogText = 12
+kindNumber NoPair = 13
+kindNumber File = 14
+
+abbrev pub paper : Answer → Paper
+paper (Shown l) = verdict (numberOf (l .verdict)) (l .left)
+paper (Refused r) = refused (kindNumber (r .kind)) (r .place)
+
+-- the verdict, by whether the first set is occupied, and the second
+abbrev pub verdictFor : Bool → Bool → Verdict
+verdictFor true true = Inconclusive
+verdictFor true false = True
+verdictFor false true = False
+verdictFor false false = OutOfModel
+
+-- the answers as the contracts make them
+abbrev pub refusedAt : Kind → ℕ → Refusal
+refusedAt k p = record { kind = k; place = p }
+
+abbrev pub shown : Bool → Bool → ℕ → Answer
+shown keeps breaks left = Shown (record { verdict = verdictFor keeps breaks; left = left })

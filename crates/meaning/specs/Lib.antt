@@ -1,0 +1,9 @@
+pub mod Bit
+pub mod Says
+pub mod Formula
+pub mod Run
+pub mod Event
+pub mod Pair
+pub mod Verdict
+pub mod Limits
+pub mod Sense

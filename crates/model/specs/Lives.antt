@@ -1,0 +1,95 @@
+-- The live set worked out is the set of the live pairs.
+use Prim.Native.Nat.{ℕ, _-_, _^_, _<_}
+use native.Mathlib.Omega.{arith}
+use mathlib.Core.Path.{_≡_, sym, subst}
+use mathlib.Core.Logic.{_↔_, Iff·trans, Iff·symm}
+use mathlib.Core.Bool.{true, false, So}
+use mathlib.Core.List.{List}
+use Rattle.words.specs.Below.{wordsBelow}
+use Rattle.words.specs.Laws.{bit-all}
+use Rattle.words.specs.Lists.{length-words}
+use Rattle.pairs.specs.Sets.{inside, sameOf, same-equal}
+use Rattle.graphs.specs.Count.{card, card-bound}
+use Rattle.graphs.specs.Core
+use Rattle.graphs.specs.Core.{Keeps, keeps-start}
+use Rattle.graphs.specs.Fair.{Lives, lives-iff, lives-same}
+use Rattle.graphs.specs.Trim.{trimmed-done}
+use Rattle.meaning.specs.Says.{Says}
+use Rattle.meaning.specs.Formula.{Formula, parts}
+use Rattle.meaning.specs.Run.{Plant}
+use Rattle.meaning.specs.Pair.{Live}
+use Rattle.meaning.specs.Limits.{AcceptedTable, Small}
+use Rattle.theory.specs.Says.{says-and}
+use Rattle.theory.specs.Tests.{lt-says}
+use Rattle.theory.specs.Node.{node, stateOf, valuesOf, valid, valid-says, valid-below, edge, goals}
+use Rattle.theory.specs.Alive.{valuations-few, live-iff}
+use Rattle.model.specs.Settle.{settle-keeps, settle-rests}
+use Rattle.model.specs.Sets.{PairSet, inside-words, nodesOf, at-node, nodes-valid, set-grown, nodes-ext, differ, sets-ext}
+use Rattle.model.specs.LiveSet.{enough, narrow, allPairs, liveSet}
+use Rattle.model.specs.Round.{narrowed}
+
+-- what a loop of rounds has left: it holds pairs of the table and the rule, and all live ones. The loop begins with keeping-start, goes on by
+-- keeping-more, comes to an end by keeping-less, and stops with keeping-end.
+pub record Keeping (T : Plant) (f : Formula) (Z : List ℕ) : Type 0 where
+  pub set : PairSet T f Z
+  pub keeps : Keeps (edge T f) (goals T f) (valid T f) (nodesOf Z)
+
+module _ (T : Plant) (f : Formula) (A : AcceptedTable T) (small : Small f) where
+  abbrev n : ℕ
+  n = 2 ^ parts f
+
+  pub keeping-start : Keeping T f (allPairs T f)
+  unfolding allPairs
+  keeping-start = record {
+    set = record { long = length-words n _; range = λ s v i. let (lv, ls) = holds s v .0 i in (ls, lv) };
+    keeps = λ x l. (let (ls, lv) = valid-says T f x .0 (keeps-start x l) in holds (stateOf x) (valuesOf x) .1 (lv, ls));
+  }
+    where
+      holds : (s v : ℕ) → Says (inside (wordsBelow n (λ v. 2 ^ T .states - 1)) s v) ((v < n) × (s < T .states))
+      holds s v = rw (inside-words n (λ v. 2 ^ T .states - 1) (valuations-few f small) s v, bit-all (T .states) s) (says-and (lt-says v n) (lt-says s (T .states)))
+
+  pub keeping-more : (Z : List ℕ) → Keeping T f Z → Keeping T f (narrow T f Z)
+  keeping-more Z k = let (y, t) = narrowed T f A small (k .set) in record { set = y; keeps = t .keeps (valid T f) (k .keeps) }
+
+  pub keeping-less : (Z : List ℕ) → Keeping T f Z → sameOf (narrow T f Z) Z ≡ false → card 4096 (nodesOf (narrow T f Z)) < card 4096 (nodesOf Z)
+  keeping-less Z k e = let (y, t) = narrowed T f A small (k .set) in set-grown (A .few-states) (valuations-few f small) y (k .set) (t .inside) (differ e)
+
+  keeping-lives : (Z : List ℕ) → Keeping T f Z → sameOf (narrow T f Z) Z ≡ true → Lives (edge T f) (goals T f) (valid T f) (nodesOf Z)
+  keeping-lives Z k e =
+      let (y, t) = narrowed T f A small (k .set) in
+      let same : narrow T f Z ≡ Z = same-equal (narrow T f Z) Z (y .long) (k .set .long) e in
+      trimmed-done (nodes-valid (k .set)) (k .keeps) t (λ x i. subst (λ (Y : List ℕ). So (nodesOf Y x)) (sym same) i)
+
+  keeping : Keeping T f (liveSet T f)
+  unfolding liveSet
+  keeping = settle-keeps (narrow T f) sameOf (Keeping T f) keeping-more enough (allPairs T f) keeping-start
+
+  pub live-set : PairSet T f (liveSet T f)
+  live-set = keeping .set
+
+  lives : Lives (edge T f) (goals T f) (valid T f) (nodesOf (liveSet T f))
+  unfolding liveSet
+  lives = keeping-lives (liveSet T f) keeping
+      (settle-rests (narrow T f) sameOf (Keeping T f) keeping-more (λ Z. 4096 - card 4096 (nodesOf Z)) 4096 (λ Z _. omega arith)
+      (λ Z k e. omega (arith, card-bound 4096 (nodesOf Z), keeping-less Z k e))
+      enough (allPairs T f) keeping-start (omega arith))
+
+  pub keeping-end : (Z : List ℕ) → Keeping T f Z → sameOf (narrow T f Z) Z ≡ true → Z ≡ liveSet T f
+  keeping-end Z k e = nodes-ext (A .few-states) (k .set) live-set (lives-same 4096 (valid-below T f (valuations-few f small)) (keeping-lives Z k e) lives)
+
+  -- the live set is right
+  pub live-says : (s v : ℕ) → Says (inside (liveSet T f) s v) (Live T f s v)
+  live-says s v = (
+    λ i. let h = low (live-set .range s v i .0) in live-iff T f (A .few-states) small s v h .1 (at h .0 (rw (at-node (liveSet T f) s v h) i)),
+    λ l. let h = low (rw (l .pair .state) at (l .walk .within 0)) in rw (at-node (liveSet T f) s v h) at (at h .1 (live-iff T f (A .few-states) small s v h .0 l)),
+  )
+    where
+      low : s < T .states → s < 64
+      low h = let k = A .few-states in omega arith
+
+      at : s < 64 → So (nodesOf (liveSet T f) (node s v)) ↔ Core.Live (edge T f) (goals T f) (valid T f) (node s v)
+      at h = lives-iff 4096 (valid-below T f (valuations-few f small)) lives (node s v)
+
+  -- and the only right one: however code finds the live pairs, it finds these words
+  pub live-only : (Z : List ℕ) → PairSet T f Z → ((s v : ℕ) → Says (inside Z s v) (Live T f s v)) → Z ≡ liveSet T f
+  live-only Z z says = sets-ext (A .few-states) z live-set (λ s v. Iff·trans (says s v) (Iff·symm (live-says s v)))

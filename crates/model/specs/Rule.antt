@@ -1,0 +1,124 @@
+-- The step rule of 01, for any live set and any state handed in: which pairs the opening and a step hold.
+use Prim.Native.Nat.{ℕ, _^_, _≤_, _<_}
+use mathlib.Core.Path.{_≡_, refl}
+use mathlib.Core.Logic.{Iff·trans, Iff·symm}
+use mathlib.Core.Bool.{Bool, true, false, So, _&&_, cond, Bool·beq}
+use mathlib.Core.List.{List}
+use lib.Bits.{bitAnd}
+use lib.Dec.{ltb}
+use lib.ListN.{getD}
+use borrow.Author.Tests.{lt-ltb}
+use Rattle.meaning.specs.Bit.{bit}
+use Rattle.words.specs.Below.{wordsBelow}
+use Rattle.words.specs.Laws.{bit-and}
+use Rattle.words.specs.Lists.{length-words}
+use Rattle.words.specs.Unions.{bit-wordOf}
+use Rattle.pairs.specs.Sets.{inside}
+use Rattle.moves.specs.Image.{reachedAt}
+use Rattle.labels.specs.Labels.{agreeingOf, bit-agreeing, agrees-each, each-agrees}
+use Rattle.meaning.specs.Says.{Says}
+use Rattle.meaning.specs.Formula.{Formula, parts}
+use Rattle.meaning.specs.Run.{Plant, labelOf}
+use Rattle.meaning.specs.Event.{Seen, Agrees, Event}
+use Rattle.theory.specs.Move.{value, leads}
+use Rattle.meaning.specs.Limits.{AcceptedTable, Small}
+use Rattle.theory.specs.Says.{says-itself, says-and, same-beq}
+use Rattle.theory.specs.Tests.{lt-says}
+use Rattle.theory.specs.Alive.{valuations-few}
+use Rattle.model.specs.Sets.{PairSet, inside-words, sets-ext}
+use Rattle.model.specs.Moves.{from, to}
+use Rattle.model.specs.Leads.{reached-says}
+use Rattle.model.specs.Monitor.{Monitor, side, holding, opensAt, opening, sourceAt, keptOf, stepOf}
+
+-- at a starting state, and the rule has the value b
+abbrev pub Opens : Plant → Formula → Bool → ℕ → ℕ → Type 0
+Opens T f b s v = So (bit (T .start) s) × (value f 0 (labelOf T s) v ≡ b)
+
+-- what a new pair of side b comes from, by whether an event came before, and whether this one is a restart
+abbrev pub Source : Plant → Formula → List ℕ → Bool → Bool → Bool → ℕ → ℕ → Type 0
+Source T f old false new b s v = So (inside old s v)
+Source T f old true true b s v = Opens T f b s v
+Source T f old true false b s v = (s₀ : ℕ) × (v₀ : ℕ) × (So (inside old s₀ v₀) × So (leads T f s₀ v₀ s v))
+
+-- what a step keeps on side b: the live pairs whose label agrees, and that come from what was held
+abbrev pub Stays : Plant → Formula → List ℕ → Monitor → Event → Bool → ℕ → ℕ → Type 0
+Stays T f live m e b s v = So (inside live s v) × Agrees (e .seen) (labelOf T s) × Source T f (side m b) (m .seen) (e .new) b s v
+
+module _ (T : Plant) (f : Formula) (live : List ℕ) where
+  pub side-opening : (b : Bool) → side (opening T f live) b ≡ wordsBelow (2 ^ parts f) (opensAt T f live b)
+  unfolding opening
+  side-opening true = refl
+  side-opening false = refl
+
+  pub side-step : (m : Monitor) (e : Event) (b : Bool) → side (stepOf T f live m e) b ≡ keptOf T f live m e b
+  unfolding stepOf
+  side-step m e true = refl
+  side-step m e false = refl
+
+module _ (T : Plant) (f : Formula) (A : AcceptedTable T) (small : Small f) (live : List ℕ) (l : PairSet T f live) where
+  abbrev n : ℕ
+  n = 2 ^ parts f
+
+  few : n ≤ 64
+  few = valuations-few f small
+
+  -- the live pairs that are in the words a and g, which may be read there
+  live-words : (a g : ℕ → ℕ) (s v : ℕ) {P Q : Type 0} → (So (inside live s v) → Says (bit (a v) s) P) → (So (inside live s v) → Says (bit (g v) s) Q)
+      → Says (inside (wordsBelow n (λ v. bitAnd (bitAnd (getD live v 0) (a v)) (g v))) s v) (So (inside live s v) × P × Q)
+  live-words a g s v p q = rw (inside-words n (λ v. bitAnd (bitAnd (getD live v 0) (a v)) (g v)) few s v, bit-and, bit-and) (
+    λ e. let (_, h) = all .0 e in let ((i, x), y) = h in (i, p i .0 x, q i .0 y),
+    λ (i, x, y). all .1 (l .range s v i .1, ((i, p i .1 x), q i .1 y)),
+  )
+    where
+      all : Says (ltb v n && ((inside live s v && bit (a v) s) && bit (g v) s)) ((v < n) × ((So (inside live s v) × So (bit (a v) s)) × So (bit (g v) s)))
+      all = says-and (lt-says v n) (says-and (says-and (says-itself (inside live s v)) (says-itself (bit (a v) s))) (says-itself (bit (g v) s)))
+
+  holding-says : (b : Bool) (s v : ℕ) → s < T .states → Says (bit (holding T f b v) s) (value f 0 (labelOf T s) v ≡ b)
+  unfolding holding
+  holding-says b s v ls = rw (bit-wordOf (T .states) (λ s. Bool·beq (value f 0 (labelOf T s) v) b) s, lt-ltb s (T .states) ls) (same-beq (value f 0 (labelOf T s) v) b)
+
+  -- the opening holds the live pairs at starting states, the first set those where the rule holds, the second the others
+  pub opening-rule : (b : Bool) (s v : ℕ) → Says (inside (side (opening T f live) b) s v) (So (inside live s v) × Opens T f b s v)
+  unfolding opensAt
+  opening-rule b s v = rw (side-opening T f live b) (Iff·trans
+      (live-words (λ _. T .start) (holding T f b) s v (λ i. says-itself _) (λ i. holding-says b s v (l .range s v i .0)))
+      (λ (i, x, y). (i, (x, y)), λ (i, (x, y)). (i, x, y)))
+
+  agree-says : (e : Seen) (s : ℕ) → s < T .states → Says (bit (agreeingOf (T .label) (e .see) (e .val)) s) (Agrees e (labelOf T s))
+  agree-says e s ls = rw (bit-agreeing (T .label) (e .see) (e .val) s (rw (A .labels) ls))
+      (agrees-each (e .see) (e .val) (labelOf T s), each-agrees (e .see) (e .val) (labelOf T s))
+
+  module _ (m : Monitor) (held : (b : Bool) → PairSet T f (side m b)) where
+    -- by whether an event came before, and whether this one is a restart
+    source-says : (seen new b : Bool) (s v : ℕ) → So (inside live s v)
+        → Says (bit (cond seen (cond new (opensAt T f live b v) (reachedAt (T .next) (side m b) (from T f) (to T f) n v)) (getD (side m b) v 0)) s)
+        (Source T f (side m b) seen new b s v)
+    unfolding opensAt
+    source-says false new b s v i = says-itself (inside (side m b) s v)
+    source-says true false b s v i = reached-says T f A (side m b) (held b) s v (l .range s v i .0)
+    source-says true true b s v i = rw (bit-and, bit-and, i) (says-and (says-itself (bit (T .start) s)) (holding-says b s v (l .range s v i .0)))
+
+    pub step-rule : (e : Event) (b : Bool) (s v : ℕ) → Says (inside (side (stepOf T f live m e) b) s v) (Stays T f live m e b s v)
+    unfolding keptOf sourceAt
+    step-rule e b s v = rw (side-step T f live m e b)
+        (live-words _ (sourceAt T f live m (e .new) b) s v (λ i. agree-says (e .seen) s (l .range s v i .0)) (source-says (m .seen) (e .new) b s v))
+
+    -- and these are sets of pairs again
+    pub step-sets : (e : Event) (b : Bool) → PairSet T f (side (stepOf T f live m e) b)
+    unfolding keptOf
+    step-sets e b = record { long = rw (side-step T f live m e b) (length-words n _); range = λ s v i. l .range s v (step-rule e b s v .0 i .0) }
+
+  pub opening-sets : (b : Bool) → PairSet T f (side (opening T f live) b)
+  opening-sets b = record { long = rw (side-opening T f live b) (length-words n _); range = λ s v i. l .range s v (opening-rule b s v .0 i .0) }
+
+  -- however code finds the pairs of a step, it finds these words
+  pub step-only : (m : Monitor) (held : (b : Bool) → PairSet T f (side m b)) (e : Event) (b : Bool) (Z : List ℕ) → PairSet T f Z
+      → ((s v : ℕ) → Says (inside Z s v) (Stays T f live m e b s v)) → Z ≡ side (stepOf T f live m e) b
+  step-only m held e b Z z says =
+      sets-ext (A .few-states) z (step-sets m held e b) (λ s v. Iff·trans (says s v) (Iff·symm (step-rule m held e b s v)))
+
+-- a restart flag on the first event changes nothing
+pub first-restart : (T : Plant) (f : Formula) (live : List ℕ) (m : Monitor) (e : Event) → m .seen ≡ false
+    → stepOf T f live m e ≡ stepOf T f live m (record { seen = e .seen; new = false })
+unfolding stepOf keptOf sourceAt
+first-restart T f live m e first = rw first

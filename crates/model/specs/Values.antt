@@ -1,0 +1,113 @@
+-- The value of a rule a word of states at a time, for one valuation. Bits beyond the table's states do not matter.
+use Prim.Native.Nat.{ℕ, _+_, _-_, _^_, _<_}
+use native.Mathlib.Omega.{arith}
+use mathlib.Core.Path.{_≡_, refl, sym, ap, ap₂, _∙_}
+use mathlib.Core.Bool.{Bool, true, false, _&&_, _||_, not, Bool·beq}
+use mathlib.Core.List.{List}
+use lib.Bits.{bitAnd, bitOr}
+use lib.ListN.{getD}
+use borrow.Author.Tests.{lt-ltb}
+use Rattle.meaning.specs.Bit.{bit}
+use Rattle.words.specs.Word.{onlyOf}
+use Rattle.words.specs.Truth.{and-both}
+use Rattle.words.specs.Laws.{bit-and, bit-or, bit-not, bit-all, bit-zero}
+use Rattle.words.specs.Unions.{bit-wordOf}
+use Rattle.labels.specs.Labels.{havingOf, bit-having}
+use Rattle.meaning.specs.Formula.{Formula, never, always, prop, neg, next, finally, globally, until, release, and, or, implies, parts}
+use Rattle.meaning.specs.Run.{Plant, labelOf}
+use Rattle.meaning.specs.Limits.{AcceptedTable}
+use Rattle.theory.specs.Move.{value}
+use Rattle.model.specs.Sets.{PairSet, and-same}
+use Rattle.model.specs.Monitor.{holding, opensAt}
+
+-- the word x shows the rule f, its parts numbered from n, at the valuation v: its members among the states are those where f has the value true
+abbrev pub Shows : Plant → Formula → ℕ → ℕ → ℕ → Type 0
+Shows T f n v x = (s : ℕ) → s < T .states → bit x s ≡ value f n (labelOf T s) v
+
+-- all states, or none
+abbrev pub wholly : Bool → ℕ
+wholly b = onlyOf b (2 ^ 64 - 1)
+
+module _ (T : Plant) (A : AcceptedTable T) (n v : ℕ) where
+  low : (s : ℕ) → s < T .states → s < 64
+  low s h = let k = A .few-states in omega arith
+
+  pub bit-wholly : (b : Bool) (s : ℕ) → s < T .states → bit (wholly b) s ≡ b
+  bit-wholly true s l = bit-all 64 s ∙ lt-ltb s 64 (low s l)
+  bit-wholly false s l = bit-zero s
+
+  bit-complement : (x : ℕ) → x < 2 ^ 64 → (s : ℕ) → s < T .states → bit (2 ^ 64 - 1 - x) s ≡ not (bit x s)
+  bit-complement x h s l = bit-not 64 h s ∙ rw (lt-ltb s 64 (low s l))
+
+  pub shows-never : Shows T never n v 0
+  unfolding value
+  shows-never s l = bit-zero s
+
+  pub shows-always : Shows T always n v (2 ^ 64 - 1)
+  unfolding value
+  shows-always s l = bit-wholly true s l
+
+  pub shows-prop : (p : ℕ) → Shows T (prop p) n v (havingOf (T .label) p)
+  unfolding value
+  shows-prop p s l = bit-having (T .label) p s (rw (A .labels) l)
+
+  -- a temporal part: all states or none, by its digit of v
+  pub shows-next : (a : Formula) → Shows T (next a) n v (wholly (bit v n))
+  unfolding value
+  shows-next a = bit-wholly (bit v n)
+
+  pub shows-finally : (a : Formula) → Shows T (finally a) n v (wholly (bit v n))
+  unfolding value
+  shows-finally a = bit-wholly (bit v n)
+
+  pub shows-globally : (a : Formula) → Shows T (globally a) n v (wholly (bit v n))
+  unfolding value
+  shows-globally a = bit-wholly (bit v n)
+
+  pub shows-until : (a b : Formula) → Shows T (until a b) n v (wholly (bit v (n + parts a)))
+  unfolding value
+  shows-until a b = bit-wholly (bit v (n + parts a))
+
+  pub shows-release : (a b : Formula) → Shows T (release a b) n v (wholly (bit v (n + parts a)))
+  unfolding value
+  shows-release a b = bit-wholly (bit v (n + parts a))
+
+  pub shows-neg : (a : Formula) (x : ℕ) → x < 2 ^ 64 → Shows T a n v x → Shows T (neg a) n v (2 ^ 64 - 1 - x)
+  unfolding value
+  shows-neg a x h p s l = bit-complement x h s l ∙ ap not (p s l)
+
+  module _ (a b : Formula) (x y : ℕ) (p : Shows T a n v x) (q : Shows T b (n + parts a) v y) where
+    pub shows-and : Shows T (and a b) n v (bitAnd x y)
+    unfolding value
+    shows-and s l = bit-and x y s ∙ ap₂ _&&_ (p s l) (q s l)
+
+    pub shows-or : Shows T (or a b) n v (bitOr x y)
+    unfolding value
+    shows-or s l = bit-or x y s ∙ ap₂ _||_ (p s l) (q s l)
+
+    pub shows-implies : x < 2 ^ 64 → Shows T (implies a b) n v (bitOr (2 ^ 64 - 1 - x) y)
+    unfolding value
+    shows-implies h s l = bit-or (2 ^ 64 - 1 - x) y s ∙ ap₂ _||_ (bit-complement x h s l ∙ ap not (p s l)) (q s l)
+
+-- so the opening's words
+module _ (T : Plant) (f : Formula) (A : AcceptedTable T) (live : List ℕ) (z : PairSet T f live) (v x : ℕ) (p : Shows T f 0 v x) where
+  opens : (b : Bool) (y : ℕ) → ((s : ℕ) → s < T .states → bit y s ≡ Bool·beq (value f 0 (labelOf T s) v) b)
+      → opensAt T f live b v ≡ bitAnd (bitAnd (getD live v 0) (T .start)) y
+  unfolding opensAt holding
+  opens b y h = and-same (bitAnd (getD live v 0) (T .start)) (holding T f b v) y (λ s i.
+      let l : s < T .states = z .range s v (and-both (bit (getD live v 0) s) (bit (T .start) s) (rw bit-and at i) .0) .0 in
+      bit-wordOf (T .states) (λ s. Bool·beq (value f 0 (labelOf T s) v) b) s ∙ rw (lt-ltb s (T .states) l) (sym (h s l)))
+
+  pub opens-keeps : opensAt T f live true v ≡ bitAnd (bitAnd (getD live v 0) (T .start)) x
+  opens-keeps = opens true x (λ s l. p s l ∙ is (value f 0 (labelOf T s) v))
+    where
+      is : (b : Bool) → b ≡ Bool·beq b true
+      is true = refl
+      is false = refl
+
+  pub opens-breaks : x < 2 ^ 64 → opensAt T f live false v ≡ bitAnd (bitAnd (getD live v 0) (T .start)) (2 ^ 64 - 1 - x)
+  opens-breaks h = opens false (2 ^ 64 - 1 - x) (λ s l. bit-complement T A 0 v x h s l ∙ ap not (p s l) ∙ is (value f 0 (labelOf T s) v))
+    where
+      is : (b : Bool) → not b ≡ Bool·beq b false
+      is true = refl
+      is false = refl

@@ -1,0 +1,5 @@
+pub mod Fit
+pub mod Image
+pub mod Back
+pub mod Sweep
+pub mod Leading

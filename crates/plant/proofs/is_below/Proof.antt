@@ -1,0 +1,14 @@
+-- `plant::is_below` meets its contract. Assumes nothing.
+use mathlib.Core.Path.{ap, _∙_}
+use lib.Dec.{leb}
+use Rattle.plant.proofs.Turns.{up-to}
+use borrow.Author.Needs.{needs}
+use Rattle.plant.proofs.is_below.Statement.{statement}
+use Rattle.plant.proofs.is_below.Tie as tie
+
+returns : tie.Need-returns
+returns c = ap (leb (c .before .args .set)) (c .all .ensures) ∙ up-to (c .before .args .n) (c .before .args .set)
+
+pub is-below-spec : {M : Type 1} → statement M
+is-below-spec = tie.close (tie.spec
+    (λ c κs. search needs) returns)

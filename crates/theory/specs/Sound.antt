@@ -1,0 +1,86 @@
+-- A lasso of nodes that meets every goal makes its first pair live: its states are a fair lasso, and its values are the right ones.
+use Prim.Native.Nat.{ℕ, suc, _+_, _%_, _<_}
+use native.Mathlib.Nat.{mod-lt}
+use mathlib.Core.Path.{_≡_, sym, ap, _∙_}
+use mathlib.Core.Logic.{⊎-elim}
+use mathlib.Core.Bool.{So, and-eq-true-iff}
+use mathlib.Core.List.{List, map}
+use lib.ListN.{length, getD, length-map, List·getD-map}
+use Rattle.meaning.specs.Bit.{bit}
+use Rattle.graphs.specs.Number.{node-first, node-second}
+use Rattle.graphs.specs.Lasso
+use Rattle.meaning.specs.Formula.{Formula}
+use Rattle.meaning.specs.Run.{Plant, Lasso, FairLasso, stateAt, labelOf, nextOf, wordOf}
+use Rattle.meaning.specs.Pair.{PairAt, Live}
+use Rattle.theory.specs.Move.{fits, table}
+use Rattle.theory.specs.Each.{Each, each-of, each-at, each-imp}
+use Rattle.theory.specs.Until.{Again}
+use Rattle.theory.specs.Join.{below-or-beyond, in-stem, in-loop}
+use Rattle.theory.specs.Lasting.{lasting}
+use Rattle.theory.specs.Node.{node, stateOf, valuesOf, valid, valid-says, edge, settledAt, goals, each-goal}
+use Rattle.theory.specs.Ring.{getD-any, ring-first, ring-moves, ring-within, ring-meets, ring-again}
+
+-- a lasso seen through g
+abbrev image : (ℕ → ℕ) → Lasso → Lasso
+image g K = record { stem = map g (K .stem); loop = map g (K .loop) }
+
+through : (g : ℕ → ℕ) (l : List ℕ) (i : ℕ) → i < length l → getD (map g l) i 0 ≡ g (getD l i 0)
+through g l i lt = getD-any (map g l) i 0 (g 0) (rw length-map lt) ∙ List·getD-map g l i 0
+
+image-at : (g : ℕ → ℕ) (K : Lasso) → 0 < length (K .loop) → (i : ℕ) → stateAt (image g K) i ≡ g (stateAt K i)
+image-at g K loops i = ⊎-elim stem (λ (j, e). round j e) (below-or-beyond (length (K .stem)) i)
+  where
+    stem : i < length (K .stem) → stateAt (image g K) i ≡ g (stateAt K i)
+    stem lt = in-stem (image g K) i (rw length-map lt) ∙ through g (K .stem) i lt ∙ ap g (sym (in-stem K i lt))
+
+    round : (j : ℕ) → i ≡ length (K .stem) + j → stateAt (image g K) i ≡ g (stateAt K i)
+    round j e =
+        let there : stateAt (image g K) (length (K .stem) + j) ≡ getD (map g (K .loop)) (j % length (K .loop)) 0 =
+        rw (length-map (K .stem) g, length-map (K .loop) g) at (in-loop (image g K) j) in
+        rw e (there ∙ through g (K .loop) (j % length (K .loop)) (mod-lt j loops) ∙ ap g (sym (in-loop K j)))
+
+-- the states of a lasso of nodes
+abbrev pub statesOf : List ℕ → List ℕ → Lasso
+statesOf xs ys = record { stem = map stateOf xs; loop = map stateOf ys }
+
+module _ (T : Plant) (f : Formula) (s v : ℕ) (low : s < 64) (xs ys : List ℕ) (l : Lasso.Lasso (edge T f) (goals T f) (valid T f) (node s v) xs ys) where
+  abbrev K : Lasso
+  K = record { stem = xs; loop = ys }
+
+  abbrev L : Lasso
+  L = statesOf xs ys
+
+  state : (i : ℕ) → stateAt L i ≡ stateOf (stateAt K i)
+  state i = image-at stateOf K (l .turns .moves) i
+
+  steps : (i : ℕ) → So (bit (nextOf T (stateOf (stateAt K i))) (stateOf (stateAt K (suc i))))
+      × So (fits f (labelOf T (stateOf (stateAt K i))) (valuesOf (stateAt K i)) (labelOf T (stateOf (stateAt K (suc i)))) (valuesOf (stateAt K (suc i))))
+  steps i = and-eq-true-iff _ _ .0 (ring-moves l i)
+
+  pub ring-fair : FairLasso T (statesOf xs ys)
+  ring-fair = record {
+    loops = rw length-map (l .turns .moves);
+    within = λ i. rw (state i) (valid-says T f (stateAt K i) .0 (ring-within l i) .0);
+    moves = λ i. rw (state i, state (suc i)) (steps i .0);
+    fair = λ j lt.
+        let (i, h, m) = each-at _ 0 (T .fair) (each-goal T f _ .0 (each-of _ (goals T f) (ring-meets l)) .0) j lt in
+        (i, rw length-map h, rw (through stateOf ys i h) m);
+  }
+
+  settled-again : Each (λ c. Again (λ i. settledAt T c (stateAt K i))) (table f 0)
+  settled-again = each-goal T f (λ g. Again (λ i. g (stateAt K i))) .0 (each-of _ (goals T f) (ring-again l)) .1
+
+  pub ring-pair : PairAt T f (statesOf xs ys) 0 s v
+  ring-pair = record {
+    state = state 0 ∙ ap stateOf (ring-first l) ∙ node-first 64 s v low;
+    gives = rw first at (lasting (wordOf T L) (λ i. valuesOf (stateAt K i)) f (λ i. rw (state i, state (suc i)) (steps i .1))
+        (each-imp _ _ (λ c h i. let (j, le, m) = h i in (j, le, rw (state j) m)) (table f 0) settled-again) 0);
+    small = rw first at (valid-says T f (stateAt K 0) .0 (ring-within l 0) .1);
+  }
+    where
+      first : valuesOf (stateAt K 0) ≡ v
+      first = ap valuesOf (ring-first l) ∙ node-second 64 s v low
+
+  -- the pair is live by these states
+  unfoldable pub ring-live : Live T f s v
+  ring-live = record { lasso = statesOf xs ys; walk = ring-fair; pair = ring-pair }

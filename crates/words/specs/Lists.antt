@@ -1,0 +1,105 @@
+-- The laws of the lists that a loop over 0, 1, .. n - 1 fills.
+use Prim.Native.Nat.{ℕ, zero, suc, _+_, _<_}
+use mathlib.Core.Path.{_≡_, refl, sym, ap, ap₂, _∙_}
+use mathlib.Core.Bool.{Bool, cond}
+use mathlib.Core.Logic.{⊎-elim}
+use mathlib.Core.List.{List, [], _∷_, _++_}
+use native.Mathlib.Omega.{arith}
+use lib.Arith.{lt-of-le-ne}
+use native.Mathlib.Numerals.{add-one}
+use lib.Dec.{ltb}
+use lib.ListN.{length, getD, set, replicate, length-append, length-set, getD-replicate, List·getD-append}
+use lib.Seq.{getD-at, ext-getD, getD-set-same, getD-set-other}
+use borrow.Author.Tests.{lt-ltb, le-ltb, ltb-true}
+use Rattle.words.specs.Word.{onlyOf}
+use Rattle.words.specs.Below.{listBelow, changedBelow, wordsBelow}
+use Rattle.words.specs.Truth.{below-cases, same-or-not, so-ext}
+
+-- ---- listBelow
+
+pub list-more : (n : ℕ) (f : ℕ → ℕ) → listBelow (n + 1) f ≡ listBelow n f ++ (f n ∷ [])
+unfolding listBelow
+list-more n f = rw add-one
+
+pub length-list : (n : ℕ) (f : ℕ → ℕ) → length (listBelow n f) ≡ n
+unfolding listBelow
+length-list zero f = refl
+length-list (suc n) f = length-append (listBelow n f) (f n ∷ []) ∙ ap (λ (m : ℕ). m + 1) (length-list n f) ∙ add-one n
+
+pub list-at : (n : ℕ) (f : ℕ → ℕ) (k : ℕ) → k < n → getD (listBelow n f) k 0 ≡ f k
+unfolding listBelow
+list-at zero f k h = absurd (omega arith)
+list-at (suc n) f k h =
+    ⊎-elim
+    (λ l. List·getD-append (listBelow n f) (f n ∷ []) 0 k (rw length-list l) ∙ list-at n f k l)
+    (λ e. rw e (getD-at (listBelow n f) (f n) [] 0 n (length-list n f)))
+    (below-cases h)
+
+-- two lists of 64 words are equal where each word is
+pub words-ext : (l m : List ℕ) → length l ≡ 64 → length m ≡ 64 → ((v : ℕ) → v < 64 → getD l v 0 ≡ getD m v 0) → l ≡ m
+words-ext l m hl hm e = ext-getD 0 l m (hl ∙ sym hm) (λ v h. e v (omega arith))
+
+-- ---- changedBelow: a list of 64 words that a loop changes in place
+
+pub length-changed : (n : ℕ) (f : ℕ → ℕ) (l : List ℕ) → length (changedBelow n f l) ≡ 64
+unfolding changedBelow
+length-changed n f l = length-list 64 (λ v. cond (ltb v n) (f v) (getD l v 0))
+
+pub changed-at : (n : ℕ) (f : ℕ → ℕ) (l : List ℕ) (v : ℕ) → v < 64 → getD (changedBelow n f l) v 0 ≡ cond (ltb v n) (f v) (getD l v 0)
+unfolding changedBelow
+changed-at n f l v h = list-at 64 (λ v. cond (ltb v n) (f v) (getD l v 0)) v h
+
+pub changed-none : (f : ℕ → ℕ) (l : List ℕ) → length l ≡ 64 → l ≡ changedBelow 0 f l
+changed-none f l h =
+    words-ext l (changedBelow 0 f l) h (length-changed 0 f l)
+    (λ v k. sym (changed-at 0 f l v k ∙ ap (λ (b : Bool). cond b (f v) (getD l v 0)) (le-ltb v 0 (omega arith))))
+
+-- the word that the next turn reads is still the old one
+pub changed-next : (n : ℕ) (f : ℕ → ℕ) (l : List ℕ) → n < 64 → getD (changedBelow n f l) n 0 ≡ getD l n 0
+changed-next n f l h = changed-at n f l n h ∙ ap (λ (b : Bool). cond b (f n) (getD l n 0)) (le-ltb n n (omega arith))
+
+-- a turn: word n is stored
+pub changed-more : (n : ℕ) (f : ℕ → ℕ) (l : List ℕ) → set (changedBelow n f l) n (f n) ≡ changedBelow (n + 1) f l
+changed-more n f l =
+    words-ext (set (changedBelow n f l) n (f n)) (changedBelow (n + 1) f l)
+    (length-set (changedBelow n f l) n (f n) ∙ length-changed n f l) (length-changed (n + 1) f l)
+    (λ v h. ⊎-elim (same v h) (other v h) (same-or-not v n) ∙ sym (changed-at (n + 1) f l v h))
+  where
+    same : (v : ℕ) → v < 64 → v ≡ n → getD (set (changedBelow n f l) n (f n)) v 0 ≡ cond (ltb v (n + 1)) (f v) (getD l v 0)
+    same v h e =
+        rw (e, lt-ltb n (n + 1) (omega arith)) (getD-set-same (changedBelow n f l) n (f n) 0 (rw length-changed (omega arith)))
+
+    other : (v : ℕ) → v < 64 → (v ≡ n → ⊥) → getD (set (changedBelow n f l) n (f n)) v 0 ≡ cond (ltb v (n + 1)) (f v) (getD l v 0)
+    other v h d =
+        getD-set-other (changedBelow n f l) n v (f n) 0 d ∙ changed-at n f l v h
+        ∙ ap (λ (b : Bool). cond b (f v) (getD l v 0)) (so-ext (ltb v n) (ltb v (n + 1))
+        (λ p. let l = ltb-true v n p in lt-ltb v (n + 1) (omega arith))
+        (λ p. let l = ltb-true v (n + 1) p in lt-ltb v n (lt-of-le-ne (omega arith) d)))
+
+-- ---- wordsBelow: the same from 64 zeros
+
+pub length-words : (n : ℕ) (f : ℕ → ℕ) → length (wordsBelow n f) ≡ 64
+unfolding wordsBelow
+length-words n f = length-changed n f (replicate 64 0)
+
+pub words-at : (n : ℕ) (f : ℕ → ℕ) (v : ℕ) → v < 64 → getD (wordsBelow n f) v 0 ≡ onlyOf (ltb v n) (f v)
+unfolding wordsBelow
+words-at n f v h = changed-at n f (replicate 64 0) v h ∙ ap (cond (ltb v n) (f v)) (getD-replicate 64 v 0 0 h)
+
+pub words-none : (f : ℕ → ℕ) → replicate 64 0 ≡ wordsBelow 0 f
+unfolding wordsBelow
+words-none f = changed-none f (replicate 64 0) refl
+
+pub words-more : (n : ℕ) (f : ℕ → ℕ) → set (wordsBelow n f) n (f n) ≡ wordsBelow (n + 1) f
+unfolding wordsBelow
+words-more n f = changed-more n f (replicate 64 0)
+
+-- a turn as a loop has it: the list is as it should be, and so is the word stored
+pub words-turn : (n : ℕ) (f : ℕ → ℕ) (l : List ℕ) (x : ℕ) → l ≡ wordsBelow n f → x ≡ f n → set l n x ≡ wordsBelow (n + 1) f
+words-turn n f l x e h = ap₂ (λ (m : List ℕ) (y : ℕ). set m n y) e h ∙ words-more n f
+
+-- a loop that changes all words in place comes to the same
+pub changed-all : (f : ℕ → ℕ) (l : List ℕ) → changedBelow 64 f l ≡ wordsBelow 64 f
+changed-all f l =
+    words-ext (changedBelow 64 f l) (wordsBelow 64 f) (length-changed 64 f l) (length-words 64 f)
+    (λ v h. changed-at 64 f l v h ∙ rw (words-at 64 f v h, lt-ltb v 64 h))
