@@ -13,7 +13,8 @@ use Rattle.meaning.specs.Event.{Seen, Event}
 abbrev pub Sets : ℕ → List ℕ → Type 0
 Sets n xs = (k : ℕ) → k < length xs → getD xs k 0 < 2 ^ n
 
--- checks 1 and 2: the counts are in range, the lent parts have those lengths, and no bit is beyond the counts
+-- refused by neither "1: a count is out of range or lent table parts have other lengths" nor "2: a bit names a state or proposition
+-- beyond the counts"
 pub record AcceptedTable (T : Plant) : Type 0 where
   pub some-props : 1 ≤ T .props
   pub few-props : T .props ≤ 8
@@ -27,15 +28,16 @@ pub record AcceptedTable (T : Plant) : Type 0 where
   pub label-sets : Sets (T .props) (T .label)
   pub next-sets : Sets (T .states) (T .next)
 
--- check 8
+-- not refused by "8: over 6 temporal operators"
 abbrev pub Small : Formula → Type 0
 Small f = parts f ≤ 6
 
--- check 10: the event sees only propositions of the table, and gives 1 to none but those
+-- not refused by "10: event sees a proposition beyond `props`, or gives 1 to one not seen"
 pub record Legal (T : Plant) (e : Seen) : Type 0 where
   pub sees : e .see < 2 ^ T .props
   pub gives : (p : ℕ) → So (bit (e .val) p) → So (bit (e .see) p)
 
+-- so for each event of a log
 abbrev pub LegalLog : Plant → List Event → Type 0
 LegalLog T [] = Unit {0}
 LegalLog T (e ∷ es) = Legal T (e .seen) × LegalLog T es

@@ -1,4 +1,5 @@
--- Pairs: a table state s, and a number v whose digit k is a truth value for temporal part k.
+-- "A pair is a table state and a truth value for each numbered part at that moment": a state s, and a number v whose binary digit k is
+-- the truth value of temporal part k.
 use Prim.Native.Nat.{ℕ, _<_, _^_}
 use mathlib.Core.Path.{_≡_}
 use lib.ListN.{getD}
@@ -21,7 +22,8 @@ pub record PairAt (T : Plant) (f : Formula) (L : Lasso) (i s v : ℕ) : Type 0 w
   pub gives : Gives (wordOf T L) f v i
   pub small : v < 2 ^ parts f
 
--- the pair is live: some fair lasso from s gives the parts the values v at its first position
+-- "A pair is live if some fair lasso, starting at that state and not necessarily at a starting state, gives its parts those values at
+--  its first position."
 pub record Live (T : Plant) (f : Formula) (s v : ℕ) : Type 0 where
   pub lasso : Lasso
   pub walk : FairLasso T lasso
