@@ -1,7 +1,7 @@
 -- Two answers that stand for the same on paper are equal. So a promise about `paper` determines the whole answer.
-use Prim.Native.Nat.{ℕ, zero, suc}
+use Prim.Native.Nat.{ℕ}
 use native.Mathlib.Omega.{arith}
-use mathlib.Core.Path.{_≡_, refl, sym, ap}
+use mathlib.Core.Path.{_≡_, refl, ap}
 use mathlib.Core.Bool.{Bool, true, false}
 use mathlib.Core.List.{List, [], _∷_}
 use lib.ListN.{getD}
@@ -26,8 +26,13 @@ use Rattle.answers.specs.declared.Kind.the-variants.{
   File,
 }
 use Rattle.answers.specs.declared.Answer.{Answer}
-use Rattle.answers.specs.declared.Answer.the-variants.{Shown, Refused}
-use Rattle.answers.specs.Paper.{verdict, refused, numberOf, kindNumber, paper, verdictFor}
+use Rattle.answers.specs.declared.Answer.the-variants.{Shown}
+use Rattle.answers.specs.declared.Answer.the-variants as Answers
+use Rattle.answers.specs.declared.Outcome.{Outcome}
+use Rattle.answers.specs.declared.Outcome.the-variants.{Accepted}
+use Rattle.answers.specs.declared.Outcome.the-variants as Outcomes
+use Rattle.answers.specs.declared.Refusal.{Refusal}
+use Rattle.answers.specs.Paper.{Paper, verdict, refused, accepted, numberOf, kindNumber, refusal, paper, outcome, verdictFor}
 
 -- the verdict that a call shows has the number that 01 gives it
 pub verdict-number : (keeps breaks : Bool) → numberOf (verdictFor keeps breaks) ≡ verdictOf keeps breaks
@@ -73,17 +78,32 @@ one-verdict v w same = cc (verdict-back v, verdict-back w, ap (λ n. getD verdic
 pub one-kind : (j k : Kind) → kindNumber j ≡ kindNumber k → j ≡ k
 one-kind j k same = cc (kind-back j, kind-back k, ap (λ n. getD kinds n File) same)
 
-clash : {a b c d : ℕ} → verdict a b ≡ refused c d → ⊥
-clash same = let z : _≡_ {A = ℕ} 0 1 = cc in omega arith
+-- which of the three a paper is
+abbrev sort : Paper → ℕ
+sort (verdict n left) = 0
+sort (refused n place) = 1
+sort (accepted ns) = 2
+
+apart : {p q : Paper} → (sort p ≡ sort q → ⊥) → p ≡ q → ⊥
+apart d same = d (ap sort same)
+
+pub one-refusal : (q r : Refusal) → refusal q ≡ refusal r → q ≡ r
+one-refusal q r same =
+    let number : kindNumber (q .kind) ≡ kindNumber (r .kind) = cc in
+    let place : q .place ≡ r .place = cc in
+    λ k. record { kind = one-kind (q .kind) (r .kind) number k; place = place k }
 
 pub one-answer : (a b : Answer) → paper a ≡ paper b → a ≡ b
 one-answer (Shown i) (Shown j) same =
     let number : numberOf (i .verdict) ≡ numberOf (j .verdict) = cc in
     let left : i .left ≡ j .left = cc in
     λ k. Shown (record { verdict = one-verdict (i .verdict) (j .verdict) number k; left = left k })
-one-answer (Shown i) (Refused r) same = absurd (clash same)
-one-answer (Refused r) (Shown j) same = absurd (clash (sym same))
-one-answer (Refused q) (Refused r) same =
-    let number : kindNumber (q .kind) ≡ kindNumber (r .kind) = cc in
-    let place : q .place ≡ r .place = cc in
-    λ k. Refused (record { kind = one-kind (q .kind) (r .kind) number k; place = place k })
+one-answer (Shown i) (Answers.Refused r) same = absurd (apart (λ e. omega arith) same)
+one-answer (Answers.Refused r) (Shown j) same = absurd (apart (λ e. omega arith) same)
+one-answer (Answers.Refused q) (Answers.Refused r) same = ap Answers.Refused (one-refusal q r same)
+
+pub one-outcome : (a b : Outcome) → outcome a ≡ outcome b → a ≡ b
+one-outcome Accepted Accepted same = refl
+one-outcome Accepted (Outcomes.Refused r) same = absurd (apart (λ e. omega arith) same)
+one-outcome (Outcomes.Refused r) Accepted same = absurd (apart (λ e. omega arith) same)
+one-outcome (Outcomes.Refused q) (Outcomes.Refused r) same = ap Outcomes.Refused (one-refusal q r same)

@@ -1,6 +1,7 @@
 -- 01's number and values for each case of an answer; the promises are made in these.
 use Prim.Native.Nat.{ℕ}
 use mathlib.Core.Bool.{Bool, true, false}
+use mathlib.Core.List.{List, []}
 use Rattle.answers.specs.declared.Verdict.{Verdict}
 use Rattle.answers.specs.declared.Verdict.the-variants.{Inconclusive, True, False, OutOfModel}
 use Rattle.answers.specs.declared.Kind.{Kind}
@@ -22,12 +23,18 @@ use Rattle.answers.specs.declared.Kind.the-variants.{
 }
 use Rattle.answers.specs.declared.Refusal.{Refusal}
 use Rattle.answers.specs.declared.Answer.{Answer}
-use Rattle.answers.specs.declared.Answer.the-variants.{Shown, Refused}
+use Rattle.answers.specs.declared.Answer.the-variants.{Shown}
+use Rattle.answers.specs.declared.Answer.the-variants as Answers
+use Rattle.answers.specs.declared.Outcome.{Outcome}
+use Rattle.answers.specs.declared.Outcome.the-variants.{Accepted}
+use Rattle.answers.specs.declared.Outcome.the-variants as Outcomes
 
--- what stands on paper: a verdict's number with `left`, or a refusal's number with its place
+-- what stands on paper: a verdict's number with `left`, a refusal's number with its place, or that a call was accepted, with the numbers it
+-- gives (none where the value stands beside)
 pub data Paper : Type 0 where
   verdict : ℕ → ℕ → Paper
   refused : ℕ → ℕ → Paper
+  accepted : List ℕ → Paper
 
 abbrev pub numberOf : Verdict → ℕ
 numberOf Inconclusive = 0
@@ -52,9 +59,17 @@ kindNumber LogText = 12
 kindNumber NoPair = 13
 kindNumber File = 14
 
+-- a refusal, and each answer, on paper
+abbrev pub refusal : Refusal → Paper
+refusal r = refused (kindNumber (r .kind)) (r .place)
+
 abbrev pub paper : Answer → Paper
 paper (Shown l) = verdict (numberOf (l .verdict)) (l .left)
-paper (Refused r) = refused (kindNumber (r .kind)) (r .place)
+paper (Answers.Refused r) = refusal r
+
+abbrev pub outcome : Outcome → Paper
+outcome Accepted = accepted []
+outcome (Outcomes.Refused r) = refusal r
 
 -- the verdict, by whether the first set is occupied, and the second
 abbrev pub verdictFor : Bool → Bool → Verdict
