@@ -1,19 +1,16 @@
 -- For code: other ways to the same words.
 use Prim.Native.Nat.{ℕ, _^_, _<_}
-use native.Mathlib.Omega.{arith}
-use native.Mathlib.Decide.{decLt}
 use mathlib.Core.Path.{_≡_, sym, _∙_}
-use mathlib.Core.Bool.{Bool, true, false, So, _&&_, false≢true}
+use mathlib.Core.Bool.{Bool, true, false, So, _&&_}
 use mathlib.Core.List.{List}
 use lib.Bits.{bitAnd, bitOr}
 use lib.Dec.{ltb}
 use lib.Count.{ones}
-use lib.ListN.{length, getD, List·getD-eq-default}
+use lib.ListN.{length, getD}
 use borrow.Author.Tests.{ltb-true}
 use Rattle.meaning.specs.Bit.{bit}
 use Rattle.words.specs.Below.{allBelow}
-use Rattle.words.specs.Truth.{and-both}
-use Rattle.words.specs.Laws.{bit-zero, bit-above}
+use Rattle.words.specs.Lists.{entry-inside}
 use Rattle.words.specs.Folds.{any-found}
 use Rattle.words.specs.Unions.{union-same, bit-wordOf, ones-count}
 use Rattle.pairs.specs.Sets.{statesOf, left-ones}
@@ -27,9 +24,11 @@ use Rattle.meaning.specs.Run.{Plant, labelOf, nextOf}
 use Rattle.meaning.specs.Event.{Event}
 use Rattle.meaning.specs.Limits.{AcceptedTable}
 use Rattle.theory.specs.Parts.{partOf, every-parts}
-use Rattle.model.specs.Sets.{PairSet, and-same}
+use Rattle.model.specs.Sets.{PairSet}
+use Rattle.words.specs.Within.{members-below, and-same}
 use Rattle.model.specs.Moves.{leaving, entering, from, to, bit-from, bit-to}
 use Rattle.model.specs.Monitor.{Monitor, side, sourceAt, keptOf, left}
+use Rattle.words.specs.Truth.{and-says}
 
 -- after the first event, and with no restart, a step is the image of what was held
 pub moved-image : (T : Plant) (f : Formula) (live : List ℕ) (m : Monitor) (e : Event) (b : Bool) → m .seen ≡ true → e .new ≡ false
@@ -47,13 +46,9 @@ module _ (T : Plant) (f : Formula) (A : AcceptedTable T) (Z : List ℕ) (z : Pai
     (leave : (v w s : ℕ) → v < 2 ^ parts f → w < 2 ^ parts f → s < T .states → bit (src v w) s ≡ bit (from T f v w) s)
     (enter : (v w t : ℕ) → v < 2 ^ parts f → w < 2 ^ parts f → t < T .states → bit (dst v w) t ≡ bit (to T f v w) t) where
   next-low : (s t : ℕ) → So (bit (nextOf T s) t) → t < T .states
-  next-low s t h = go (decLt s (length (T .next))) (decLt t (T .states))
-    where
-      go : Dec (s < length (T .next)) → Dec (t < T .states) → t < T .states
-      go l (yes k) = k
-      go (yes l) (no k) = absurd (false≢true (sym (bit-above (T .states) (A .next-sets s l) (omega arith)) ∙ h))
-      go (no l) (no k) = absurd (false≢true (rw (List·getD-eq-default (T .next) 0 {n = s} (omega arith), bit-zero) at h))
+  next-low s t h = members-below (T .states) (nextOf T s) .0 (A .next-sets s (entry-inside (T .next) s t h)) t h
 
+  -- for a step
   pub reached-same : (w : ℕ) → w < 2 ^ parts f → reachedAt (T .next) Z src dst (2 ^ parts f) w ≡ reachedAt (T .next) Z (from T f) (to T f) (2 ^ parts f) w
   unfolding reachedAt
   reached-same w lw = union-same (2 ^ parts f) _ _ λ v lv.
@@ -63,8 +58,9 @@ module _ (T : Plant) (f : Formula) (A : AcceptedTable T) (Z : List ℕ) (z : Pai
       post-low : (set t : ℕ) → So (bit (postOf (T .next) set) t) → t < T .states
       post-low set t i =
           let (s, _, h) = any-found (length (T .next)) (λ s. bit set s && bit (nextOf T s) t) (rw bit-post at i) in
-          next-low s t (and-both (bit set s) (bit (nextOf T s) t) h .1)
+          next-low s t (and-says (bit set s) (bit (nextOf T s) t) .0 h .1)
 
+  -- and for a sweep
   pub leading-same : (v : ℕ) → v < 2 ^ parts f → leadingAt (T .next) src dst (2 ^ parts f) Z v ≡ leadingAt (T .next) (from T f) (to T f) (2 ^ parts f) Z v
   unfolding leadingAt preOf
   leading-same v lv = union-same (2 ^ parts f) _ _ λ w lw.
@@ -72,7 +68,7 @@ module _ (T : Plant) (f : Formula) (A : AcceptedTable T) (Z : List ℕ) (z : Pai
       (and-same (preOf (T .next) (bitAnd (getD Z w 0) (to T f v w))) (src v w) (from T f v w) (λ s i. leave v w s lv lw (pre-low (bitAnd (getD Z w 0) (to T f v w)) s i)))
     where
       pre-low : (target s : ℕ) → So (bit (preOf (T .next) target) s) → s < T .states
-      pre-low target s i = rw (A .nexts) at (ltb-true s (length (T .next)) (and-both (ltb s (length (T .next))) (meets (T .next) target s) (rw bit-wordOf at i) .0))
+      pre-low target s i = rw (A .nexts) at (ltb-true s (length (T .next)) (and-says (ltb s (length (T .next))) (meets (T .next) target s) .0 (rw bit-wordOf at i) .0))
 
 -- `from` and `to`, part by part
 module _ (T : Plant) (f : Formula) (v w : ℕ) where

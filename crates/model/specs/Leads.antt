@@ -8,7 +8,6 @@ use lib.Dec.{ltb}
 use lib.ListN.{length, getD}
 use borrow.Author.Tests.{lt-ltb}
 use Rattle.meaning.specs.Bit.{bit}
-use Rattle.words.specs.Truth.{and-both}
 use Rattle.words.specs.Laws.{bit-and}
 use Rattle.words.specs.Folds.{any-found, any-of}
 use Rattle.words.specs.Unions.{bit-union, bit-wordOf, some-member, member-some}
@@ -16,15 +15,15 @@ use Rattle.pairs.specs.Sets.{inside}
 use Rattle.moves.specs.Image.{reachedAt, bit-reached, leads-move, move-leads}
 use Rattle.moves.specs.Back.{meets, preOf}
 use Rattle.moves.specs.Leading.{leadingVia, leadingAt}
-use Rattle.graphs.specs.Number.{node-first, node-second}
 use Rattle.meaning.specs.Says.{Says}
 use Rattle.meaning.specs.Formula.{Formula, parts}
 use Rattle.meaning.specs.Run.{Plant, nextOf}
-use Rattle.theory.specs.Move.{leads}
+use Rattle.meaning.specs.Step.{leads}
 use Rattle.meaning.specs.Limits.{AcceptedTable}
-use Rattle.theory.specs.Node.{node, stateOf, valuesOf, edge}
+use Rattle.theory.specs.Node.{node, node-first, node-second, stateOf, valuesOf, edge}
 use Rattle.model.specs.Moves.{from, to, leads-says}
 use Rattle.model.specs.Sets.{PairSet, nodesOf}
+use Rattle.words.specs.Truth.{and-says}
 
 module _ (T : Plant) (f : Formula) (A : AcceptedTable T) (Z : List ℕ) (z : PairSet T f Z) where
   abbrev n : ℕ
@@ -45,11 +44,11 @@ module _ (T : Plant) (f : Formula) (A : AcceptedTable T) (Z : List ℕ) (z : Pai
       found : So (bit (leadingAt (T .next) (from T f) (to T f) n Z v) s) → (t : ℕ) × (w : ℕ) × (So (leads T f s v t w) × So (inside Z t w))
       found e =
           let (w, lw, m) = any-found n (λ w. bit (via w) s) (rw bit-union at e) in
-          let (p, leaves) = and-both (bit (preOf (T .next) (target w)) s) (bit (from T f v w) s) (rw bit-and at m) in
-          let (_, some) = and-both (ltb s (length (T .next))) (meets (T .next) (target w) s) (rw bit-wordOf at p) in
+          let (p, leaves) = and-says (bit (preOf (T .next) (target w)) s) (bit (from T f v w) s) .0 (rw bit-and at m) in
+          let (_, some) = and-says (ltb s (length (T .next))) (meets (T .next) (target w) s) .0 (rw bit-wordOf at p) in
           let (t, b) = some-member (bitAnd (nextOf T s) (target w)) some in
-          let (allowed, c) = and-both (bit (nextOf T s) t) (bit (target w) t) (rw bit-and at b) in
-          let (held, enters) = and-both (inside Z t w) (bit (to T f v w) t) (rw bit-and at c) in
+          let (allowed, c) = and-says (bit (nextOf T s) t) (bit (target w) t) .0 (rw bit-and at b) in
+          let (held, enters) = and-says (inside Z t w) (bit (to T f v w) t) .0 (rw bit-and at c) in
           (t, w, (leads-says T f v w s t ls (z .range t w held .0) .1 (leaves, allowed, enters), held))
 
       of : (t : ℕ) × (w : ℕ) × (So (leads T f s v t w) × So (inside Z t w)) → So (bit (leadingAt (T .next) (from T f) (to T f) n Z v) s)
@@ -93,6 +92,6 @@ module _ (T : Plant) (f : Formula) (A : AcceptedTable T) (Z : List ℕ) (z : Pai
     λ e.
         let (t, w, (l, held)) = leading-says (stateOf x) (valuesOf x) ls .0 e in
         let low : t < 64 = (let h = z .range t w held .0 in omega arith) in
-        (node t w, rw (node-first 64 t w low, node-second 64 t w low) l, rw (node-first 64 t w low, node-second 64 t w low) held),
+        (node t w, rw (node-first t w low, node-second t w low) l, rw (node-first t w low, node-second t w low) held),
     λ (y, l, held). leading-says (stateOf x) (valuesOf x) ls .1 (stateOf y, valuesOf y, (l, held)),
   )

@@ -8,7 +8,8 @@ use Rattle.pairs.specs.Sets.{joinOf, sameOf}
 use Rattle.moves.specs.Leading.{leadingOf}
 use Rattle.meaning.specs.Formula.{Formula, parts}
 use Rattle.meaning.specs.Run.{Plant, labelOf}
-use Rattle.theory.specs.Move.{Part, settled, table}
+use Rattle.meaning.specs.Step.{Part, table}
+use Rattle.theory.specs.Move.{settled}
 use Rattle.model.specs.Settle.{settle}
 use Rattle.model.specs.Moves.{from, to}
 
@@ -21,6 +22,7 @@ abbrev pub enough : ℕ
 enough = 4097
 
 module _ (T : Plant) (f : Formula) where
+  -- how many valuations the rule has
   abbrev pub valuations : ℕ
   valuations = 2 ^ parts f
 
@@ -50,8 +52,10 @@ module _ (T : Plant) (f : Formula) where
   unfoldable pub narrow : List ℕ → List ℕ
   narrow Z = foldl reaching (meetOf Z (before Z)) goalSets
 
+  -- every pair of the table and the rule
   unfoldable pub allPairs : List ℕ
   allPairs = wordsBelow valuations (λ v. 2 ^ T .states - 1)
 
+  -- the live set
   unfoldable pub liveSet : List ℕ
   liveSet = settle narrow sameOf enough allPairs

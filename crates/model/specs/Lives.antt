@@ -9,9 +9,9 @@ use Rattle.words.specs.Below.{wordsBelow}
 use Rattle.words.specs.Laws.{bit-all}
 use Rattle.words.specs.Lists.{length-words}
 use Rattle.pairs.specs.Sets.{inside, sameOf, same-equal}
-use Rattle.graphs.specs.Count.{card, card-bound}
-use Rattle.graphs.specs.Core
-use Rattle.graphs.specs.Core.{Keeps, keeps-start}
+use Rattle.words.specs.Below.{countBelow}
+use Rattle.words.specs.Folds.{count-le}
+use Rattle.graphs.specs.Core.{LiveNode, Keeps, keeps-start}
 use Rattle.graphs.specs.Fair.{Lives, lives-iff, lives-same}
 use Rattle.graphs.specs.Trim.{trimmed-done}
 use Rattle.meaning.specs.Says.{Says}
@@ -19,14 +19,15 @@ use Rattle.meaning.specs.Formula.{Formula, parts}
 use Rattle.meaning.specs.Run.{Plant}
 use Rattle.meaning.specs.Pair.{Live}
 use Rattle.meaning.specs.Limits.{AcceptedTable, Small}
-use Rattle.theory.specs.Says.{says-and}
-use Rattle.theory.specs.Tests.{lt-says}
 use Rattle.theory.specs.Node.{node, stateOf, valuesOf, valid, valid-says, valid-below, edge, goals}
 use Rattle.theory.specs.Alive.{valuations-few, live-iff}
 use Rattle.model.specs.Settle.{settle-keeps, settle-rests}
-use Rattle.model.specs.Sets.{PairSet, inside-words, nodesOf, at-node, nodes-valid, set-grown, nodes-ext, differ, sets-ext}
+use Rattle.model.specs.Sets.{PairSet, nodesOf, at-node, nodes-valid, set-grown, nodes-ext, differ, sets-ext}
+use Rattle.pairs.specs.Sets.{inside-words}
 use Rattle.model.specs.LiveSet.{enough, narrow, allPairs, liveSet}
 use Rattle.model.specs.Round.{narrowed}
+use Rattle.words.specs.Truth.{says-and}
+use Rattle.words.specs.Tests.{lt-says}
 
 -- what a loop of rounds has left: it holds pairs of the table and the rule, and all live ones. The loop begins with keeping-start, goes on by
 -- keeping-more, comes to an end by keeping-less, and stops with keeping-end.
@@ -51,7 +52,7 @@ module _ (T : Plant) (f : Formula) (A : AcceptedTable T) (small : Small f) where
   pub keeping-more : (Z : List ℕ) → Keeping T f Z → Keeping T f (narrow T f Z)
   keeping-more Z k = let (y, t) = narrowed T f A small (k .set) in record { set = y; keeps = t .keeps (valid T f) (k .keeps) }
 
-  pub keeping-less : (Z : List ℕ) → Keeping T f Z → sameOf (narrow T f Z) Z ≡ false → card 4096 (nodesOf (narrow T f Z)) < card 4096 (nodesOf Z)
+  pub keeping-less : (Z : List ℕ) → Keeping T f Z → sameOf (narrow T f Z) Z ≡ false → countBelow 4096 (nodesOf (narrow T f Z)) < countBelow 4096 (nodesOf Z)
   keeping-less Z k e = let (y, t) = narrowed T f A small (k .set) in set-grown (A .few-states) (valuations-few f small) y (k .set) (t .inside) (differ e)
 
   keeping-lives : (Z : List ℕ) → Keeping T f Z → sameOf (narrow T f Z) Z ≡ true → Lives (edge T f) (goals T f) (valid T f) (nodesOf Z)
@@ -64,14 +65,15 @@ module _ (T : Plant) (f : Formula) (A : AcceptedTable T) (small : Small f) where
   unfolding liveSet
   keeping = settle-keeps (narrow T f) sameOf (Keeping T f) keeping-more enough (allPairs T f) keeping-start
 
+  -- it is a set of pairs of the table and the rule
   pub live-set : PairSet T f (liveSet T f)
   live-set = keeping .set
 
   lives : Lives (edge T f) (goals T f) (valid T f) (nodesOf (liveSet T f))
   unfolding liveSet
   lives = keeping-lives (liveSet T f) keeping
-      (settle-rests (narrow T f) sameOf (Keeping T f) keeping-more (λ Z. 4096 - card 4096 (nodesOf Z)) 4096 (λ Z _. omega arith)
-      (λ Z k e. omega (arith, card-bound 4096 (nodesOf Z), keeping-less Z k e))
+      (settle-rests (narrow T f) sameOf (Keeping T f) keeping-more (λ Z. 4096 - countBelow 4096 (nodesOf Z)) 4096 (λ Z _. omega arith)
+      (λ Z k e. omega (arith, count-le 4096 (nodesOf Z), keeping-less Z k e))
       enough (allPairs T f) keeping-start (omega arith))
 
   pub keeping-end : (Z : List ℕ) → Keeping T f Z → sameOf (narrow T f Z) Z ≡ true → Z ≡ liveSet T f
@@ -87,7 +89,7 @@ module _ (T : Plant) (f : Formula) (A : AcceptedTable T) (small : Small f) where
       low : s < T .states → s < 64
       low h = let k = A .few-states in omega arith
 
-      at : s < 64 → So (nodesOf (liveSet T f) (node s v)) ↔ Core.Live (edge T f) (goals T f) (valid T f) (node s v)
+      at : s < 64 → So (nodesOf (liveSet T f) (node s v)) ↔ LiveNode (edge T f) (goals T f) (valid T f) (node s v)
       at h = lives-iff 4096 (valid-below T f (valuations-few f small)) lives (node s v)
 
   -- and the only right one: however code finds the live pairs, it finds these words

@@ -15,7 +15,7 @@ use Rattle.meaning.specs.Verdict.{Chosen, At, Possible, CanBe, Right}
 use Rattle.meaning.specs.Limits.{AcceptedTable, Small}
 use Rattle.meaning.specs.Sense.{since-more}
 use Rattle.theory.specs.Join.{after}
-use Rattle.theory.specs.Narrow.{Narrower, narrow, Finer, FinerHistory, Smaller, finer-fewer, more-fewer, smaller-fewer}
+use Rattle.theory.specs.Narrow.{Narrower, verdict-narrows, Finer, FinerHistory, Smaller, finer-fewer, more-fewer, smaller-fewer}
 use Rattle.model.specs.LiveSet.{liveSet}
 use Rattle.model.specs.Monitor.{Monitor, side, runOf, verdict, left}
 use Rattle.model.specs.Means.{Means, means-run}
@@ -30,6 +30,7 @@ snoc₂ : {es es' : List Seen} (e e' : Seen) → Forall₂ Finer es es' → Fine
 snoc₂ e e' Forall₂·nil k = Forall₂·cons k Forall₂·nil
 snoc₂ e e' (Forall₂·cons h t) k = Forall₂·cons h (snoc₂ e e' t k)
 
+-- so what the logs leave is finer too
 pub since-finer : (es es' : List Event) → FinerLog es es' → FinerHistory (since es) (since es')
 unfolding since grow
 since-finer es es' k = go k none none (Forall₂·nil, refl)
@@ -51,7 +52,7 @@ watched T f es = runOf T f (liveSet T f) es
 fewer-narrows : (T T' : Plant) (f : Formula) (es es' : List Event) → AcceptedTable T → AcceptedTable T' → Small f
     → ((b : Bool) → Possible T' f (since es') b → Possible T f (since es) b) → Narrower (verdict (watched T f es)) (verdict (watched T' f es'))
 unfolding verdict
-fewer-narrows T T' f es es' A A' small fewer = narrow (still true) (still false)
+fewer-narrows T T' f es es' A A' small fewer = verdict-narrows (still true) (still false)
   where
     still : (b : Bool) → So (not (emptyOf (side (watched T' f es') b))) → So (not (emptyOf (side (watched T f es) b)))
     still b e = occupied-says T f A small (watched T f es) (since es) (means-run T f A small es) b .1

@@ -15,7 +15,8 @@ use Rattle.meaning.specs.Formula.{Formula, always, prop, neg, next, finally, gl
 use Rattle.meaning.specs.Run.{Plant}
 use Rattle.meaning.specs.Event.{Event}
 use Rattle.meaning.specs.Verdict.{verdictOf}
-use Rattle.theory.specs.Move.{value, table, fit, settled, every}
+use Rattle.meaning.specs.Step.{value, table, fit, every}
+use Rattle.theory.specs.Move.{settled}
 use Rattle.model.specs.Settle.{settle}
 use Rattle.model.specs.Moves.{leaving, entering, from, to}
 use Rattle.model.specs.LiveSet.{meetOf, before, widen, reaching, goalSets, narrow, allPairs, liveSet}
@@ -67,6 +68,7 @@ marked =
     ∷ row W (finally (prop 0)) (see 3 0 ∷ see 0 0 ∷ see 2 2 ∷ []) (1 ∷ 1 ∷ [])
     ∷ []
 
+-- the definitions show what 01 says
 pub marked-shown : map shown marked ≡ map (λ r. r .shows) marked
 unfolding bit anyBelow countBelow unionBelow listBelow wordOf changedBelow wordsBelow statesOf leftOf sameOf postOf reachedAt preOf leadingAt agreeingOf parts value table fit settled every settle leaving entering from to joinOf leadingOf meetOf before widen reaching goalSets narrow allPairs liveSet holding opensAt opening sourceAt keptOf stepOf runOf verdictOf verdict left
 marked-shown = refl

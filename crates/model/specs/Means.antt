@@ -19,7 +19,8 @@ use Rattle.model.specs.Sets.{PairSet}
 use Rattle.model.specs.LiveSet.{liveSet}
 use Rattle.model.specs.Lives.{live-set, live-says}
 use Rattle.model.specs.Monitor.{Monitor, side, opening, stepOf, runOf}
-use Rattle.model.specs.Rule.{Opens, Source, opening-rule, step-rule, step-sets, opening-sets}
+use Rattle.meaning.specs.Step.{Opens, Source}
+use Rattle.model.specs.Rule.{In, opening-rule, step-rule, step-sets, opening-sets}
 
 -- whether an event came; if so, the rule is judged from the position of one
 abbrev pub Begun : Bool → History → Type 0
@@ -42,6 +43,7 @@ module _ (T : Plant) (f : Formula) (A : AcceptedTable T) (small : Small f) where
       (λ (i, (x, y)). (live-says T f A small s v .0 i, x, y), λ (k, x, y). (live-says T f A small s v .1 k, (x, y)))
       (Iff·symm (at-opening T f b s v))
 
+  -- before any event
   pub means-opening : Means T f (opening T f live) none
   unfolding opening
   means-opening = record {
@@ -51,7 +53,7 @@ module _ (T : Plant) (f : Formula) (A : AcceptedTable T) (small : Small f) where
   }
 
   module _ (m : Monitor) (h : History) (k : Means T f m h) (e : Event) where
-    came-says : (b : Bool) (s v : ℕ) → Source T f (side m b) true false b s v ↔ Came T f b h s v
+    came-says : (b : Bool) (s v : ℕ) → Source T f (In (side m b)) true false b s v ↔ Came T f b h s v
     came-says b s v = (
       λ (s₀, v₀, (i, l)). (s₀, v₀, (k .says b s₀ v₀ .0 i, l)),
       λ (s₀, v₀, (a, l)). (s₀, v₀, (k .says b s₀ v₀ .1 a, l)),
@@ -59,7 +61,7 @@ module _ (T : Plant) (f : Formula) (A : AcceptedTable T) (small : Small f) where
 
     -- by whether an event came before, and whether this one is a restart
     kept-says : (seen new b : Bool) (s v : ℕ) → Begun seen h
-        → (So (inside live s v) × Agrees (e .seen) (labelOf T s) × Source T f (side m b) seen new b s v)
+        → (So (inside live s v) × Agrees (e .seen) (labelOf T s) × Source T f (In (side m b)) seen new b s v)
         ↔ At T f b (cond new (more none (e .seen)) (more h (e .seen))) s v
     kept-says true true b s v begun = Iff·trans
         (λ (i, ag, o). (opens-says b s v .0 (i, o), ag), λ (a, ag). let (i, o) = opens-says b s v .1 a in (i, ag, o))
@@ -75,6 +77,7 @@ module _ (T : Plant) (f : Formula) (A : AcceptedTable T) (small : Small f) where
         same true = (λ a. a, λ a. a)
         same false = rw begun (λ a. a, λ a. a)
 
+    -- one event more
     pub means-step : Means T f (stepOf T f live m e) (grow h e)
     unfolding stepOf grow
     means-step = record {

@@ -12,7 +12,7 @@ use Rattle.meaning.specs.Formula.{Formula}
 use Rattle.meaning.specs.Run.{Plant, labelOf}
 use Rattle.meaning.specs.Event.{Event}
 use Rattle.meaning.specs.Verdict.{verdictOf}
-use Rattle.theory.specs.Move.{value}
+use Rattle.meaning.specs.Step.{value}
 use Rattle.model.specs.Moves.{from, to}
 use Rattle.model.specs.LiveSet.{valuations}
 

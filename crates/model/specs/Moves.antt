@@ -4,15 +4,14 @@ use mathlib.Core.Path.{_≡_, refl, ap₂, _∙_}
 use mathlib.Core.Logic.{Iff·trans}
 use mathlib.Core.Bool.{Bool, true, false, So, _&&_, and-true}
 use mathlib.Core.List.{List, [], _∷_}
-use borrow.Author.Tests.{lt-ltb}
 use Rattle.meaning.specs.Bit.{bit}
 use Rattle.words.specs.Below.{wordOf}
-use Rattle.words.specs.Unions.{bit-wordOf}
+use Rattle.words.specs.Unions.{word-at}
 use Rattle.meaning.specs.Says.{Says}
 use Rattle.meaning.specs.Formula.{Formula}
 use Rattle.meaning.specs.Run.{Plant, labelOf, nextOf}
-use Rattle.theory.specs.Move.{Part, nextPart, untilPart, releasePart, fit, table, every, fits, leads}
-use Rattle.theory.specs.Says.{says-itself, says-and₃}
+use Rattle.meaning.specs.Step.{Part, nextPart, untilPart, releasePart, fit, table, every, fits, leads}
+use Rattle.words.specs.Truth.{says-itself, says-and₃}
 
 -- the parts U and R (and F and G) look at the label of the state left
 unfoldable pub leaving : Part → ℕ → ℕ → ℕ → Bool
@@ -59,11 +58,11 @@ fits-split f l v l' v' = split-all _ _ _ (λ c. part-split c l v l' v') (table f
 module _ (T : Plant) (f : Formula) (v w : ℕ) where
   pub bit-from : (s : ℕ) → s < T .states → bit (from T f v w) s ≡ every (λ c. leaving c v w (labelOf T s)) (table f 0)
   unfolding from
-  bit-from s l = bit-wordOf (T .states) (λ s. every (λ c. leaving c v w (labelOf T s)) (table f 0)) s ∙ rw (lt-ltb s (T .states) l)
+  bit-from s l = word-at (T .states) (λ s. every (λ c. leaving c v w (labelOf T s)) (table f 0)) s l
 
   pub bit-to : (t : ℕ) → t < T .states → bit (to T f v w) t ≡ every (λ c. entering c v w (labelOf T t)) (table f 0)
   unfolding to
-  bit-to t l = bit-wordOf (T .states) (λ s. every (λ c. entering c v w (labelOf T s)) (table f 0)) t ∙ rw (lt-ltb t (T .states) l)
+  bit-to t l = word-at (T .states) (λ s. every (λ c. entering c v w (labelOf T s)) (table f 0)) t l
 
   -- a pair leads to another where its state is in `from`, and has a next state in `to`
   pub leads-says : (s t : ℕ) → s < T .states → t < T .states

@@ -8,37 +8,37 @@ use mathlib.Core.List.{List}
 use lib.Bits.{bitAnd}
 use lib.ListN.{getD}
 use borrow.Author.Tests.{lt-ltb}
-use Rattle.words.specs.Laws.{bit-and, bit-or}
+use Rattle.words.specs.Laws.{bit-and}
 use Rattle.words.specs.Lists.{length-words}
-use Rattle.pairs.specs.Sets.{inside, joinOf, joinedAt, sameOf, same-equal}
+use Rattle.pairs.specs.Sets.{inside, joinOf, inside-join, sameOf, same-equal}
 use Rattle.moves.specs.Leading.{leadingAt, leadingOf}
-use Rattle.graphs.specs.Count.{card, card-bound}
+use Rattle.words.specs.Below.{countBelow}
+use Rattle.words.specs.Folds.{count-le}
 use Rattle.graphs.specs.Close.{Partly, Closure, partly-start, partly-grow, closure-same}
 use Rattle.meaning.specs.Says.{Says}
 use Rattle.meaning.specs.Formula.{Formula, parts}
 use Rattle.meaning.specs.Run.{Plant}
 use Rattle.meaning.specs.Limits.{AcceptedTable, Small}
-use Rattle.theory.specs.Says.{says-itself, says-and, says-or}
-use Rattle.theory.specs.Tests.{lt-says}
 use Rattle.theory.specs.Node.{stateOf, valuesOf, edge}
 use Rattle.theory.specs.Alive.{valuations-few}
 use Rattle.model.specs.Settle.{settle-keeps, settle-rests}
-use Rattle.model.specs.Sets.{PairSet, inside-words, nodesOf, set-grown, nodes-ext, differ}
+use Rattle.model.specs.Sets.{PairSet, nodesOf, set-grown, nodes-ext, differ}
+use Rattle.pairs.specs.Sets.{inside-words}
 use Rattle.model.specs.Moves.{from, to}
 use Rattle.model.specs.Leads.{leading-node}
 use Rattle.model.specs.LiveSet.{enough, meetOf, before, widen, reaching}
+use Rattle.words.specs.Truth.{and-says, or-says, says-and}
+use Rattle.words.specs.Tests.{lt-says}
 
 -- beyond word 64 there is nothing
 module _ (p q : List ℕ) (s v : ℕ) where
-  pub inside-meet : Says (inside (meetOf p q) s v) ((v < 64) × (So (inside p s v) × So (inside q s v)))
+  pub meet-says : Says (inside (meetOf p q) s v) ((v < 64) × (So (inside p s v) × So (inside q s v)))
   unfolding meetOf
-  inside-meet = rw (inside-words 64 (λ v. bitAnd (getD p v 0) (getD q v 0)) (omega arith) s v, bit-and)
-      (says-and (lt-says v 64) (says-and (says-itself (inside p s v)) (says-itself (inside q s v))))
+  meet-says = rw (inside-words 64 (λ v. bitAnd (getD p v 0) (getD q v 0)) (omega arith) s v, bit-and)
+      (says-and (lt-says v 64) (and-says (inside p s v) (inside q s v)))
 
-  inside-join : Says (inside (joinOf p q) s v) ((v < 64) × (So (inside p s v) ⊎ So (inside q s v)))
-  unfolding joinOf
-  inside-join = rw (inside-words 64 (joinedAt p q) (omega arith) s v, bit-or)
-      (says-and (lt-says v 64) (says-or (says-itself (inside p s v)) (says-itself (inside q s v))))
+  join-says : Says (inside (joinOf p q) s v) ((v < 64) × (So (inside p s v) ⊎ So (inside q s v)))
+  join-says = rw (inside-join p q s v) (says-and (lt-says v 64) (or-says (inside p s v) (inside q s v)))
 
 -- what a loop of sweeps has found so far: the loop begins with found-start, goes on by found-more, comes to an end by found-less, and
 -- stops with found-end
@@ -57,12 +57,12 @@ module _ (T : Plant) (f : Formula) (A : AcceptedTable T) (small : Small f) where
   unfolding meetOf
   meet-set {Z} Y z = record {
     long = length-words 64 _;
-    range = λ s v i. z .range s v (inside-meet Z Y s v .0 i .1 .0);
+    range = λ s v i. z .range s v (meet-says Z Y s v .0 i .1 .0);
   }
 
   -- the pairs of Z that are in Y
   meet-node : {Z : List ℕ} (Y : List ℕ) → PairSet T f Z → (x : ℕ) → Says (nodesOf (meetOf Z Y) x) (So (nodesOf Z x) × So (nodesOf Y x))
-  meet-node {Z} Y z x = Iff·trans (inside-meet Z Y (stateOf x) (valuesOf x)) (λ h. h .1, λ h. (below z (stateOf x) (valuesOf x) (h .0), h))
+  meet-node {Z} Y z x = Iff·trans (meet-says Z Y (stateOf x) (valuesOf x)) (λ h. h .1, λ h. (below z (stateOf x) (valuesOf x) (h .0), h))
 
   -- the pairs of Z with a move into B
   pub before-node : {Z B : List ℕ} → PairSet T f Z → PairSet T f B → (x : ℕ)
@@ -81,7 +81,7 @@ module _ (T : Plant) (f : Formula) (A : AcceptedTable T) (small : Small f) where
     widen-node : {B : List ℕ} → PairSet T f B → (x : ℕ)
         → Says (nodesOf (widen T f Z B) x) (So (nodesOf B x) ⊎ (So (nodesOf Z x) × ((y : ℕ) × So (edge T f x y) × So (nodesOf B y))))
     unfolding widen
-    widen-node {B} b x = Iff·trans (inside-join B (meetOf Z (before T f B)) (stateOf x) (valuesOf x)) (
+    widen-node {B} b x = Iff·trans (join-says B (meetOf Z (before T f B)) (stateOf x) (valuesOf x)) (
       λ (_, h). ⊎-map (λ i. i) (before-node z b x .0) h,
       λ h. (⊎-elim (below b (stateOf x) (valuesOf x)) (λ m. below z (stateOf x) (valuesOf x) (m .0)) h, ⊎-map (λ i. i) (before-node z b x .1) h),
     )
@@ -90,7 +90,7 @@ module _ (T : Plant) (f : Formula) (A : AcceptedTable T) (small : Small f) where
     unfolding widen joinOf
     widen-set {B} b = record {
       long = length-words 64 _;
-      range = λ s v i. ⊎-elim (b .range s v) (λ m. z .range s v (inside-meet Z (before T f B) s v .0 m .1 .0)) (inside-join B (meetOf Z (before T f B)) s v .0 i .1);
+      range = λ s v i. ⊎-elim (b .range s v) (λ m. z .range s v (meet-says Z (before T f B) s v .0 m .1 .0)) (join-says B (meetOf Z (before T f B)) s v .0 i .1);
     }
 
     pub found-start : Found T f Z G (meetOf Z G)
@@ -102,7 +102,7 @@ module _ (T : Plant) (f : Formula) (A : AcceptedTable T) (small : Small f) where
       part = partly-grow (k .part) (λ x i. widen-node (k .set) x .1 (inl i)) (λ x i. widen-node (k .set) x .0 i);
     }
 
-    pub found-less : (B : List ℕ) → Found T f Z G B → sameOf (widen T f Z B) B ≡ false → card 4096 (nodesOf B) < card 4096 (nodesOf (widen T f Z B))
+    pub found-less : (B : List ℕ) → Found T f Z G B → sameOf (widen T f Z B) B ≡ false → countBelow 4096 (nodesOf B) < countBelow 4096 (nodesOf (widen T f Z B))
     found-less B k e = set-grown (A .few-states) few (k .set) (widen-set (k .set)) (λ x i. widen-node (k .set) x .1 (inl i)) (λ p. differ e (sym p))
 
     found-closure : (B : List ℕ) → Found T f Z G B → sameOf (widen T f Z B) B ≡ true → Closure (edge T f) (nodesOf Z) (nodesOf G) (nodesOf B)
@@ -120,7 +120,7 @@ module _ (T : Plant) (f : Formula) (A : AcceptedTable T) (small : Small f) where
     pub reaching-closure : Closure (edge T f) (nodesOf Z) (nodesOf G) (nodesOf (reaching T f Z G))
     unfolding reaching
     reaching-closure = found-closure (reaching T f Z G) found
-        (settle-rests (widen T f Z) sameOf (Found T f Z G) found-more (λ B. card 4096 (nodesOf B)) 4096 (λ B _. card-bound 4096 (nodesOf B)) found-less
+        (settle-rests (widen T f Z) sameOf (Found T f Z G) found-more (λ B. countBelow 4096 (nodesOf B)) 4096 (λ B _. count-le 4096 (nodesOf B)) found-less
         enough (meetOf Z G) found-start (omega arith))
 
     pub found-end : (B : List ℕ) → Found T f Z G B → sameOf (widen T f Z B) B ≡ true → B ≡ reaching T f Z G

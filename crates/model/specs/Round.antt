@@ -7,7 +7,7 @@ use mathlib.Core.List.{List, [], _∷_, _++_, map, foldl, Forall₂, Forall₂·
 use borrow.Author.Tests.{lt-ltb}
 use Rattle.meaning.specs.Bit.{bit}
 use Rattle.words.specs.Below.{wordsBelow}
-use Rattle.words.specs.Unions.{bit-wordOf}
+use Rattle.words.specs.Unions.{word-at}
 use Rattle.pairs.specs.Sets.{inside}
 use Rattle.graphs.specs.Sets.{Nodes}
 use Rattle.graphs.specs.Close.{closure-target}
@@ -15,11 +15,13 @@ use Rattle.graphs.specs.Core
 use Rattle.graphs.specs.Trim.{Trimmed, trimmed-start, trimmed-on}
 use Rattle.meaning.specs.Formula.{Formula, parts}
 use Rattle.meaning.specs.Run.{Plant, labelOf}
-use Rattle.theory.specs.Move.{Part, settled, table}
+use Rattle.meaning.specs.Step.{Part, table}
+use Rattle.theory.specs.Move.{settled}
 use Rattle.meaning.specs.Limits.{AcceptedTable, Small}
 use Rattle.theory.specs.Node.{stateOf, valuesOf, valid, valid-says, edge, inSet, settledAt, goals}
 use Rattle.theory.specs.Alive.{valuations-few}
-use Rattle.model.specs.Sets.{PairSet, inside-words, nodesOf, nodes-valid}
+use Rattle.model.specs.Sets.{PairSet, nodesOf, nodes-valid}
+use Rattle.pairs.specs.Sets.{inside-words}
 use Rattle.model.specs.LiveSet.{meetOf, before, reaching, fairSet, settledSet, goalSets, narrow}
 use Rattle.model.specs.Reaching.{meet-set, before-node, reaching-set, reaching-closure}
 
@@ -38,8 +40,7 @@ module _ (T : Plant) (f : Formula) (A : AcceptedTable T) (small : Small f) where
   word-is g x i = inside-words n g (valuations-few f small) (stateOf x) (valuesOf x) ∙ rw (lt-ltb (valuesOf x) n (valid-says T f x .0 i .1))
 
   settled-is : (c : Part) → Is (settledSet T f c) (settledAt T c)
-  settled-is c x i = word-is _ x i ∙ bit-wordOf (T .states) (λ s. settled c (labelOf T s) (valuesOf x)) (stateOf x)
-      ∙ rw (lt-ltb (stateOf x) (T .states) (valid-says T f x .0 i .0))
+  settled-is c x i = word-is _ x i ∙ word-at (T .states) (λ s. settled c (labelOf T s) (valuesOf x)) (stateOf x) (valid-says T f x .0 i .0)
 
   goals-are : Forall₂ Is (goalSets T f) Goals
   unfolding goalSets goals

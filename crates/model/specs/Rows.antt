@@ -8,18 +8,17 @@ use mathlib.Core.Bool.{true, false}
 use mathlib.Core.List.{List}
 use lib.ListN.{getD, List·getD-eq-default}
 use lib.Pow.{pow-pos, pow-mono}
-use borrow.Author.Tests.{lt-ltb}
 use Rattle.meaning.specs.Bit.{bit}
 use Rattle.words.specs.Below.{listBelow, wordOf}
 use Rattle.words.specs.Lists.{list-at, length-list}
-use Rattle.words.specs.Unions.{bit-wordOf, wordOf-lt}
+use Rattle.words.specs.Unions.{word-at, wordOf-lt}
 use Rattle.moves.specs.Fit.{fittingOf, meetingOf}
 use Rattle.moves.specs.Image.{imageOf}
 use Rattle.moves.specs.Leading.{leadingOf}
 use Rattle.meaning.specs.Formula.{Formula, parts}
 use Rattle.meaning.specs.Run.{Plant, labelOf}
 use Rattle.meaning.specs.Limits.{AcceptedTable, Small}
-use Rattle.theory.specs.Move.{Value, Part}
+use Rattle.meaning.specs.Step.{Value, Part}
 use Rattle.theory.specs.Parts.{partOf}
 use Rattle.theory.specs.Alive.{valuations-few}
 use Rattle.model.specs.Sets.{PairSet}
@@ -68,11 +67,11 @@ module _ (T : Plant) (f : Formula) (A : AcceptedTable T) (small : Small f) where
       short i (no h) = rw (List·getD-eq-default (listBelow 384 row) 0 {n = i} (rw length-list (omega arith))) (pow-pos 64)
 
       there : (v k s : ℕ) → s < T .states → bit (rowAt T f g v k) s ≡ g (partOf f k) (labelOf T s) v
-      there v k s ls = bit-wordOf (T .states) (λ s. g (partOf f k) (labelOf T s) v) s ∙ rw (lt-ltb s (T .states) ls)
+      there v k s ls = word-at (T .states) (λ s. g (partOf f k) (labelOf T s) v) s ls
 
   nexts-right : (k : ℕ) → k < parts f → bit (nextsOf f) k ≡ isNext (partOf f k)
   unfolding nextsOf
-  nexts-right k l = bit-wordOf (parts f) (λ k. isNext (partOf f k)) k ∙ rw (lt-ltb k (parts f) l)
+  nexts-right k l = word-at (parts f) (λ k. isNext (partOf f k)) k l
 
   -- the step and the sweep with these tables are those of the definitions
   pub image-rows : (Z : List ℕ) → PairSet T f Z → (live : List ℕ) (agree : ℕ)

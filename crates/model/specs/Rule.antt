@@ -7,42 +7,32 @@ use mathlib.Core.List.{List}
 use lib.Bits.{bitAnd}
 use lib.Dec.{ltb}
 use lib.ListN.{getD}
-use borrow.Author.Tests.{lt-ltb}
 use Rattle.meaning.specs.Bit.{bit}
 use Rattle.words.specs.Below.{wordsBelow}
 use Rattle.words.specs.Laws.{bit-and}
 use Rattle.words.specs.Lists.{length-words}
-use Rattle.words.specs.Unions.{bit-wordOf}
+use Rattle.words.specs.Unions.{word-at}
 use Rattle.pairs.specs.Sets.{inside}
 use Rattle.moves.specs.Image.{reachedAt}
-use Rattle.labels.specs.Labels.{agreeingOf, bit-agreeing, agrees-each, each-agrees}
+use Rattle.labels.specs.Labels.{agreeingOf, bit-agreeing, agrees-says}
 use Rattle.meaning.specs.Says.{Says}
 use Rattle.meaning.specs.Formula.{Formula, parts}
 use Rattle.meaning.specs.Run.{Plant, labelOf}
 use Rattle.meaning.specs.Event.{Seen, Agrees, Event}
-use Rattle.theory.specs.Move.{value, leads}
+use Rattle.meaning.specs.Step.{value, Pairs, Opens, Source, Stays}
 use Rattle.meaning.specs.Limits.{AcceptedTable, Small}
-use Rattle.theory.specs.Says.{says-itself, says-and, same-beq}
-use Rattle.theory.specs.Tests.{lt-says}
 use Rattle.theory.specs.Alive.{valuations-few}
-use Rattle.model.specs.Sets.{PairSet, inside-words, sets-ext}
+use Rattle.model.specs.Sets.{PairSet, sets-ext}
+use Rattle.pairs.specs.Sets.{inside-words}
 use Rattle.model.specs.Moves.{from, to}
 use Rattle.model.specs.Leads.{reached-says}
 use Rattle.model.specs.Monitor.{Monitor, side, holding, opensAt, opening, sourceAt, keptOf, stepOf}
+use Rattle.words.specs.Truth.{says-itself, says-and, beq-says}
+use Rattle.words.specs.Tests.{lt-says}
 
--- at a starting state, and the rule has the value b
-abbrev pub Opens : Plant → Formula → Bool → ℕ → ℕ → Type 0
-Opens T f b s v = So (bit (T .start) s) × (value f 0 (labelOf T s) v ≡ b)
-
--- what a new pair of side b comes from, by whether an event came before, and whether this one is a restart
-abbrev pub Source : Plant → Formula → List ℕ → Bool → Bool → Bool → ℕ → ℕ → Type 0
-Source T f old false new b s v = So (inside old s v)
-Source T f old true true b s v = Opens T f b s v
-Source T f old true false b s v = (s₀ : ℕ) × (v₀ : ℕ) × (So (inside old s₀ v₀) × So (leads T f s₀ v₀ s v))
-
--- what a step keeps on side b: the live pairs whose label agrees, and that come from what was held
-abbrev pub Stays : Plant → Formula → List ℕ → Monitor → Event → Bool → ℕ → ℕ → Type 0
-Stays T f live m e b s v = So (inside live s v) × Agrees (e .seen) (labelOf T s) × Source T f (side m b) (m .seen) (e .new) b s v
+-- the pairs of a list of words
+abbrev pub In : List ℕ → Pairs
+In Z s v = So (inside Z s v)
 
 module _ (T : Plant) (f : Formula) (live : List ℕ) where
   pub side-opening : (b : Bool) → side (opening T f live) b ≡ wordsBelow (2 ^ parts f) (opensAt T f live b)
@@ -75,7 +65,7 @@ module _ (T : Plant) (f : Formula) (A : AcceptedTable T) (small : Small f) (live
 
   holding-says : (b : Bool) (s v : ℕ) → s < T .states → Says (bit (holding T f b v) s) (value f 0 (labelOf T s) v ≡ b)
   unfolding holding
-  holding-says b s v ls = rw (bit-wordOf (T .states) (λ s. Bool·beq (value f 0 (labelOf T s) v) b) s, lt-ltb s (T .states) ls) (same-beq (value f 0 (labelOf T s) v) b)
+  holding-says b s v ls = rw (word-at (T .states) (λ s. Bool·beq (value f 0 (labelOf T s) v) b) s ls) (beq-says (value f 0 (labelOf T s) v) b)
 
   -- the opening holds the live pairs at starting states, the first set those where the rule holds, the second the others
   pub opening-rule : (b : Bool) (s v : ℕ) → Says (inside (side (opening T f live) b) s v) (So (inside live s v) × Opens T f b s v)
@@ -86,19 +76,19 @@ module _ (T : Plant) (f : Formula) (A : AcceptedTable T) (small : Small f) (live
 
   agree-says : (e : Seen) (s : ℕ) → s < T .states → Says (bit (agreeingOf (T .label) (e .see) (e .val)) s) (Agrees e (labelOf T s))
   agree-says e s ls = rw (bit-agreeing (T .label) (e .see) (e .val) s (rw (A .labels) ls))
-      (agrees-each (e .see) (e .val) (labelOf T s), each-agrees (e .see) (e .val) (labelOf T s))
+      (agrees-says (e .see) (e .val) (labelOf T s))
 
   module _ (m : Monitor) (held : (b : Bool) → PairSet T f (side m b)) where
     -- by whether an event came before, and whether this one is a restart
     source-says : (seen new b : Bool) (s v : ℕ) → So (inside live s v)
         → Says (bit (cond seen (cond new (opensAt T f live b v) (reachedAt (T .next) (side m b) (from T f) (to T f) n v)) (getD (side m b) v 0)) s)
-        (Source T f (side m b) seen new b s v)
+        (Source T f (In (side m b)) seen new b s v)
     unfolding opensAt
     source-says false new b s v i = says-itself (inside (side m b) s v)
     source-says true false b s v i = reached-says T f A (side m b) (held b) s v (l .range s v i .0)
     source-says true true b s v i = rw (bit-and, bit-and, i) (says-and (says-itself (bit (T .start) s)) (holding-says b s v (l .range s v i .0)))
 
-    pub step-rule : (e : Event) (b : Bool) (s v : ℕ) → Says (inside (side (stepOf T f live m e) b) s v) (Stays T f live m e b s v)
+    pub step-rule : (e : Event) (b : Bool) (s v : ℕ) → Says (inside (side (stepOf T f live m e) b) s v) (Stays T f (In live) (In (side m b)) (m .seen) e b s v)
     unfolding keptOf sourceAt
     step-rule e b s v = rw (side-step T f live m e b)
         (live-words _ (sourceAt T f live m (e .new) b) s v (λ i. agree-says (e .seen) s (l .range s v i .0)) (source-says (m .seen) (e .new) b s v))
@@ -113,7 +103,7 @@ module _ (T : Plant) (f : Formula) (A : AcceptedTable T) (small : Small f) (live
 
   -- however code finds the pairs of a step, it finds these words
   pub step-only : (m : Monitor) (held : (b : Bool) → PairSet T f (side m b)) (e : Event) (b : Bool) (Z : List ℕ) → PairSet T f Z
-      → ((s v : ℕ) → Says (inside Z s v) (Stays T f live m e b s v)) → Z ≡ side (stepOf T f live m e) b
+      → ((s v : ℕ) → Says (inside Z s v) (Stays T f (In live) (In (side m b)) (m .seen) e b s v)) → Z ≡ side (stepOf T f live m e) b
   step-only m held e b Z z says =
       sets-ext (A .few-states) z (step-sets m held e b) (λ s v. Iff·trans (says s v) (Iff·symm (step-rule m held e b s v)))
 

@@ -1,14 +1,14 @@
 -- What is shown: the verdict is right, and left counts the states where an agreeing run can now be.
-use Prim.Native.Nat.{ℕ, zero, suc, _≤_, _<_}
+use Prim.Native.Nat.{ℕ, _≤_, _<_}
 use native.Mathlib.Omega.{arith}
-use native.Mathlib.Nat.{eq-or-lt-of-le}
-use mathlib.Core.Path.{_≡_, refl, _∙_}
+use mathlib.Core.Path.{_≡_, _∙_}
 use mathlib.Core.Logic.{_⊎_, ⊎-elim, ⊎-map, Iff·trans}
 use mathlib.Core.Bool.{Bool, true, false, So, not}
 use Rattle.words.specs.Below.{countBelow}
 use Rattle.words.specs.Laws.{bit-or}
-use Rattle.words.specs.Folds.{count-same}
+use Rattle.words.specs.Folds.{count-same, count-beyond, any-says}
 use Rattle.pairs.specs.Sets.{inside, emptyOf, occursIn, leftOf, occupied, occupant}
+use borrow.Author.Tests.{not-true}
 use Rattle.meaning.specs.Says.{Says, Kept}
 use Rattle.meaning.specs.Formula.{Formula, Holds}
 use Rattle.meaning.specs.Run.{Plant, Lasso, stateAt, wordOf}
@@ -16,22 +16,12 @@ use Rattle.meaning.specs.Event.{History, now}
 use Rattle.meaning.specs.Pair.{PairAt}
 use Rattle.meaning.specs.Verdict.{Agreeing, At, Possible, CanBe, Right}
 use Rattle.meaning.specs.Limits.{AcceptedTable, Small}
-use Rattle.theory.specs.Says.{so-not, says-same, says-or, kept-or}
-use Rattle.theory.specs.Tests.{any-says}
 use Rattle.theory.specs.Values.{valuesAt, pair-of}
 use Rattle.theory.specs.Verdict.{judged, verdict-right}
 use Rattle.theory.specs.Alive.{valuations-few}
 use Rattle.model.specs.Monitor.{Monitor, side, verdict, left}
 use Rattle.model.specs.Means.{Means}
-
--- beyond the bound nothing is counted
-count-beyond : (P : ℕ → Bool) (n m : ℕ) → n ≤ m → ((k : ℕ) → n ≤ k → P k ≡ false) → countBelow m P ≡ countBelow n P
-unfolding countBelow
-count-beyond P n zero le h = let e : n ≡ 0 = omega arith in rw e
-count-beyond P n (suc m) le h = ⊎-elim
-    (λ (e : n ≡ suc m). rw e)
-    (λ l. rw (h m (omega arith)) (let k = count-beyond P n m (omega arith) h in omega arith))
-    (eq-or-lt-of-le le)
+use Rattle.words.specs.Truth.{not-so, says-same, says-or, kept-or}
 
 module _ (T : Plant) (f : Formula) (A : AcceptedTable T) (small : Small f) (m : Monitor) (h : History) (means : Means T f m h) where
   low : (b : Bool) (s v : ℕ) → So (inside (side m b) s v) → v < 64
@@ -40,7 +30,7 @@ module _ (T : Plant) (f : Formula) (A : AcceptedTable T) (small : Small f) (m : 
   -- a set is occupied where a run of its kind is possible
   pub occupied-says : (b : Bool) → Says (not (emptyOf (side m b))) (Possible T f h b)
   occupied-says b = (
-    λ e. let (s, v, _, i) = occupant (side m b) (so-not e) in let a = means .says b s v .0 i in (a .lasso, a .chosen),
+    λ e. let (s, v, _, i) = occupant (side m b) (not-true _ e) in let a = means .says b s v .0 i in (a .lasso, a .chosen),
     λ (L, c).
         let a : At T f b h (stateAt L (now h)) (valuesAt T f L (now h)) = record { lasso = L; chosen = c; pair = pair-of T f L (c .run .walk) (now h) } in
         let i = means .says b (stateAt L (now h)) (valuesAt T f L (now h)) .1 a in
@@ -74,8 +64,7 @@ module _ (T : Plant) (f : Formula) (A : AcceptedTable T) (small : Small f) (m : 
   unfolding left leftOf
   left-means t says =
       count-same 64 (occursIn (m .keeps) (m .breaks)) t (λ s _. says-same (occurs-says s) (says s))
-      ∙ count-beyond t (T .states) 64 (A .few-states) (λ s le. no-more s le (t s) refl)
+      ∙ count-beyond t (T .states) 64 (A .few-states) (λ s le. not-so (t s) (λ i. none-beyond s le (says s .0 i)))
     where
-      no-more : (s : ℕ) → T .states ≤ s → (b : Bool) → t s ≡ b → t s ≡ false
-      no-more s le false e = e
-      no-more s le true e = let (L, ag, p) = says s .0 e in absurd (let k : s < T .states = rw p at (ag .0 .walk .within (now h)) in omega arith)
+      none-beyond : (s : ℕ) → T .states ≤ s → CanBe T h s → ⊥
+      none-beyond s le (L, ag, p) = let k : s < T .states = rw p at (ag .0 .walk .within (now h)) in omega arith

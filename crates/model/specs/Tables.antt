@@ -1,6 +1,6 @@
 -- For code that keeps a word of states for each part at each valuation: what the words must hold, and that they give `from` and `to`.
 use Prim.Native.Nat.{ℕ, _-_, _^_, _<_}
-use native.Mathlib.Omega.{arith}
+use native.Mathlib.Nat.{lt-of-lt-of-le}
 use mathlib.Core.Path.{_≡_, refl, sym, ap, _∙_}
 use mathlib.Core.Bool.{Bool, true, false, _&&_, _||_, cond, Bool·beq}
 use mathlib.Core.List.{List}
@@ -8,6 +8,7 @@ use lib.Bits.{bitAnd}
 use lib.ListN.{getD}
 use borrow.Author.Tests.{lt-ltb}
 use Rattle.meaning.specs.Bit.{bit}
+use Rattle.words.specs.Truth.{beq-self}
 use Rattle.words.specs.Laws.{bit-all}
 use Rattle.words.specs.Folds.{all-same}
 use Rattle.words.specs.Unions.{bit-shared}
@@ -17,10 +18,11 @@ use Rattle.moves.specs.Leading.{leadingOf}
 use Rattle.meaning.specs.Formula.{Formula, parts}
 use Rattle.meaning.specs.Run.{Plant, labelOf}
 use Rattle.meaning.specs.Limits.{AcceptedTable}
-use Rattle.theory.specs.Move.{Value, Part, nextPart, untilPart, releasePart, fit}
-use Rattle.theory.specs.Parts.{partOf, numberOf, part-number}
+use Rattle.meaning.specs.Step.{Value, Part, nextPart, untilPart, releasePart, fit}
+use Rattle.theory.specs.Parts.{partOf, partNumber, part-number}
 use Rattle.model.specs.Moves.{leaving, entering, from, to}
-use Rattle.model.specs.Sets.{PairSet, words-same}
+use Rattle.model.specs.Sets.{PairSet}
+use Rattle.words.specs.Lists.{words-same}
 use Rattle.model.specs.LiveSet.{before}
 use Rattle.model.specs.Code.{from-parts, to-parts, reached-same, leading-same}
 
@@ -41,18 +43,14 @@ operandOf (nextPart k a) l v = a l v
 operandOf (untilPart k a b) l v = true
 operandOf (releasePart k a b) l v = true
 
-leaving-unfolds : (c : Part) (v w l : ℕ) → leaving c v w l ≡ Bool·beq (bit v (numberOf c)) (unfolds c (bit w (numberOf c)) l v)
-unfolding leaving fit unfolds numberOf
-leaving-unfolds (nextPart k a) v w l = same (bit v k)
-  where
-    same : (b : Bool) → true ≡ Bool·beq b b
-    same true = refl
-    same false = refl
+leaving-unfolds : (c : Part) (v w l : ℕ) → leaving c v w l ≡ Bool·beq (bit v (partNumber c)) (unfolds c (bit w (partNumber c)) l v)
+unfolding leaving fit unfolds partNumber
+leaving-unfolds (nextPart k a) v w l = sym (beq-self (bit v k))
 leaving-unfolds (untilPart k a b) v w l = refl
 leaving-unfolds (releasePart k a b) v w l = refl
 
-entering-operand : (c : Part) (v w l : ℕ) → entering c v w l ≡ cond (isNext c) (Bool·beq (bit v (numberOf c)) (operandOf c l w)) true
-unfolding entering fit isNext operandOf numberOf
+entering-operand : (c : Part) (v w l : ℕ) → entering c v w l ≡ cond (isNext c) (Bool·beq (bit v (partNumber c)) (operandOf c l w)) true
+unfolding entering fit isNext operandOf partNumber
 entering-operand (nextPart k a) v w l = refl
 entering-operand (untilPart k a b) v w l = refl
 entering-operand (releasePart k a b) v w l = refl
@@ -63,14 +61,11 @@ pub record Rows (T : Plant) (f : Formula) (table : List ℕ) (g : Part → Value
   pub holds : (v k s : ℕ) → v < 2 ^ parts f → k < parts f → s < T .states → bit (entry table v k) s ≡ g (partOf f k) (labelOf T s) v
 
 module _ (T : Plant) (f : Formula) (A : AcceptedTable T) where
-  low : (s : ℕ) → s < T .states → s < 64
-  low s h = let k = A .few-states in omega arith
-
   -- the parts F, G, U and R fit
   pub fitting-from : (lows highs : List ℕ) → Rows T f lows (λ c. unfolds c false) → Rows T f highs (λ c. unfolds c true)
       → (v w s : ℕ) → v < 2 ^ parts f → s < T .states → bit (fittingOf (parts f) lows highs v w) s ≡ bit (from T f v w) s
   fitting-from lows highs p q v w s lv ls =
-      bit-fitting (parts f) lows highs v w s (low s ls) (λ k. small k (bit w k))
+      bit-fitting (parts f) lows highs v w s (lt-of-lt-of-le ls (A .few-states)) (λ k. small k (bit w k))
       ∙ all-same (parts f) _ _ (λ k lk. sym (leaving-unfolds (partOf f k) v w (labelOf T s) ∙ rw (part-number f k lk, row k lk (bit w k))))
       ∙ sym (from-parts T f v w s ls)
     where
@@ -88,14 +83,14 @@ module _ (T : Plant) (f : Formula) (A : AcceptedTable T) where
   unfolding meetingOf
   meeting-to nexts operands e p v w t lw lt =
       bit-shared (2 ^ 64 - 1) (parts f) (λ k. cond (bit nexts k) (agreeing (bit v k) (entry operands w k)) (2 ^ 64 - 1)) t
-      ∙ rw (bit-all 64 t, lt-ltb t 64 (low t lt))
+      ∙ rw (bit-all 64 t, lt-ltb t 64 (lt-of-lt-of-le lt (A .few-states)))
       (all-same (parts f) _ _ (λ k lk. row k lk (bit nexts k) (e k lk)) ∙ sym (to-parts T f v w t lt))
     where
       row : (k : ℕ) → k < parts f → (x : Bool) → x ≡ isNext (partOf f k)
           → bit (cond x (agreeing (bit v k) (entry operands w k)) (2 ^ 64 - 1)) t ≡ entering (partOf f k) v w (labelOf T t)
-      row k lk true n = bit-agreeing (bit v k) (p .words w k) t (low t lt)
+      row k lk true n = bit-agreeing (bit v k) (p .words w k) t (lt-of-lt-of-le lt (A .few-states))
           ∙ sym (entering-operand (partOf f k) v w (labelOf T t) ∙ rw (← n, part-number f k lk, p .holds w k t lw lk lt))
-      row k lk false n = bit-all 64 t ∙ lt-ltb t 64 (low t lt) ∙ sym (entering-operand (partOf f k) v w (labelOf T t) ∙ rw (← n))
+      row k lk false n = bit-all 64 t ∙ lt-ltb t 64 (lt-of-lt-of-le lt (A .few-states)) ∙ sym (entering-operand (partOf f k) v w (labelOf T t) ∙ rw (← n))
 
 -- so a step and the pairs with a move into a set, worked out with such tables, are those of the definitions
 module _ (T : Plant) (f : Formula) (A : AcceptedTable T) (lows highs : List ℕ) (nexts : ℕ) (operands : List ℕ)

@@ -1,7 +1,7 @@
 -- The value of a rule a word of states at a time, for one valuation. Bits beyond the table's states do not matter.
 use Prim.Native.Nat.{ℕ, _+_, _-_, _^_, _<_}
-use native.Mathlib.Omega.{arith}
-use mathlib.Core.Path.{_≡_, refl, sym, ap, ap₂, _∙_}
+use native.Mathlib.Nat.{lt-of-lt-of-le}
+use mathlib.Core.Path.{_≡_, sym, ap, ap₂, _∙_}
 use mathlib.Core.Bool.{Bool, true, false, _&&_, _||_, not, Bool·beq}
 use mathlib.Core.List.{List}
 use lib.Bits.{bitAnd, bitOr}
@@ -9,35 +9,37 @@ use lib.ListN.{getD}
 use borrow.Author.Tests.{lt-ltb}
 use Rattle.meaning.specs.Bit.{bit}
 use Rattle.words.specs.Word.{onlyOf}
-use Rattle.words.specs.Truth.{and-both}
 use Rattle.words.specs.Laws.{bit-and, bit-or, bit-not, bit-all, bit-zero}
-use Rattle.words.specs.Unions.{bit-wordOf}
+use Rattle.words.specs.Unions.{word-at}
 use Rattle.labels.specs.Labels.{havingOf, bit-having}
 use Rattle.meaning.specs.Formula.{Formula, never, always, prop, neg, next, finally, globally, until, release, and, or, implies, parts}
 use Rattle.meaning.specs.Run.{Plant, labelOf}
 use Rattle.meaning.specs.Limits.{AcceptedTable}
-use Rattle.theory.specs.Move.{value}
-use Rattle.model.specs.Sets.{PairSet, and-same}
+use Rattle.meaning.specs.Step.{Value, value}
+use Rattle.model.specs.Sets.{PairSet}
+use Rattle.words.specs.Within.{and-same}
 use Rattle.model.specs.Monitor.{holding, opensAt}
+use Rattle.words.specs.Truth.{beq-true, beq-false, and-says}
 
--- the word x shows the rule f, its parts numbered from n, at the valuation v: its members among the states are those where f has the value true
+-- among the table's states, the members of x are those where g is true at the valuation v
+abbrev pub Tells : Plant → Value → ℕ → ℕ → Type 0
+Tells T g v x = (s : ℕ) → s < T .states → bit x s ≡ g (labelOf T s) v
+
+-- the word x shows the rule f, its parts numbered from n, at the valuation v
 abbrev pub Shows : Plant → Formula → ℕ → ℕ → ℕ → Type 0
-Shows T f n v x = (s : ℕ) → s < T .states → bit x s ≡ value f n (labelOf T s) v
+Shows T f n = Tells T (value f n)
 
 -- all states, or none
 abbrev pub wholly : Bool → ℕ
 wholly b = onlyOf b (2 ^ 64 - 1)
 
 module _ (T : Plant) (A : AcceptedTable T) (n v : ℕ) where
-  low : (s : ℕ) → s < T .states → s < 64
-  low s h = let k = A .few-states in omega arith
-
   pub bit-wholly : (b : Bool) (s : ℕ) → s < T .states → bit (wholly b) s ≡ b
-  bit-wholly true s l = bit-all 64 s ∙ lt-ltb s 64 (low s l)
+  bit-wholly true s l = bit-all 64 s ∙ lt-ltb s 64 (lt-of-lt-of-le l (A .few-states))
   bit-wholly false s l = bit-zero s
 
   bit-complement : (x : ℕ) → x < 2 ^ 64 → (s : ℕ) → s < T .states → bit (2 ^ 64 - 1 - x) s ≡ not (bit x s)
-  bit-complement x h s l = bit-not 64 h s ∙ rw (lt-ltb s 64 (low s l))
+  bit-complement x h s l = bit-not 64 h s ∙ rw (lt-ltb s 64 (lt-of-lt-of-le l (A .few-states)))
 
   pub shows-never : Shows T never n v 0
   unfolding value
@@ -95,19 +97,11 @@ module _ (T : Plant) (f : Formula) (A : AcceptedTable T) (live : List ℕ) (z : 
       → opensAt T f live b v ≡ bitAnd (bitAnd (getD live v 0) (T .start)) y
   unfolding opensAt holding
   opens b y h = and-same (bitAnd (getD live v 0) (T .start)) (holding T f b v) y (λ s i.
-      let l : s < T .states = z .range s v (and-both (bit (getD live v 0) s) (bit (T .start) s) (rw bit-and at i) .0) .0 in
-      bit-wordOf (T .states) (λ s. Bool·beq (value f 0 (labelOf T s) v) b) s ∙ rw (lt-ltb s (T .states) l) (sym (h s l)))
+      let l : s < T .states = z .range s v (and-says (bit (getD live v 0) s) (bit (T .start) s) .0 (rw bit-and at i) .0) .0 in
+      word-at (T .states) (λ s. Bool·beq (value f 0 (labelOf T s) v) b) s l ∙ sym (h s l))
 
   pub opens-keeps : opensAt T f live true v ≡ bitAnd (bitAnd (getD live v 0) (T .start)) x
-  opens-keeps = opens true x (λ s l. p s l ∙ is (value f 0 (labelOf T s) v))
-    where
-      is : (b : Bool) → b ≡ Bool·beq b true
-      is true = refl
-      is false = refl
+  opens-keeps = opens true x (λ s l. p s l ∙ sym (beq-true (value f 0 (labelOf T s) v)))
 
   pub opens-breaks : x < 2 ^ 64 → opensAt T f live false v ≡ bitAnd (bitAnd (getD live v 0) (T .start)) (2 ^ 64 - 1 - x)
-  opens-breaks h = opens false (2 ^ 64 - 1 - x) (λ s l. bit-complement T A 0 v x h s l ∙ ap not (p s l) ∙ is (value f 0 (labelOf T s) v))
-    where
-      is : (b : Bool) → not b ≡ Bool·beq b false
-      is true = refl
-      is false = refl
+  opens-breaks h = opens false (2 ^ 64 - 1 - x) (λ s l. bit-complement T A 0 v x h s l ∙ ap not (p s l) ∙ sym (beq-false (value f 0 (labelOf T s) v)))

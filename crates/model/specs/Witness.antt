@@ -7,9 +7,9 @@ use mathlib.Core.List.{List}
 use lib.ListN.{length, length-map}
 use Rattle.pairs.specs.Sets.{inside, emptyOf, occupied, occupant}
 use Rattle.graphs.specs.Sets.{Nodes, _⊆_}
-use Rattle.graphs.specs.Path.{Edges}
-use Rattle.graphs.specs.Walk.{walk-widen}
-use Rattle.graphs.specs.Lasso
+use Rattle.graphs.specs.Walk.{Edges, walk-widen}
+use Rattle.graphs.specs.Lasso.{Ring}
+use borrow.Author.Tests.{not-true}
 use Rattle.meaning.specs.Says.{Says}
 use Rattle.meaning.specs.Formula.{Formula}
 use Rattle.meaning.specs.Run.{Plant, Lasso, FairLasso}
@@ -17,14 +17,13 @@ use Rattle.meaning.specs.Event.{History, now}
 use Rattle.meaning.specs.Pair.{PairAt, Live}
 use Rattle.meaning.specs.Verdict.{Chosen}
 use Rattle.meaning.specs.Limits.{AcceptedTable, Small}
-use Rattle.theory.specs.Says.{so-not}
 use Rattle.theory.specs.Join.{after}
 use Rattle.theory.specs.Node.{node, edge, goals}
-use Rattle.theory.specs.Sound.{statesOf, ring-fair, ring-pair}
+use Rattle.theory.specs.Sound.{ringStates, ring-fair, ring-pair}
 use Rattle.theory.specs.Alive.{valuations-few, live-short}
 use Rattle.theory.specs.Witness.{witness-run}
 use Rattle.model.specs.LiveSet.{meetOf, liveSet}
-use Rattle.model.specs.Reaching.{inside-meet}
+use Rattle.model.specs.Reaching.{meet-says}
 use Rattle.model.specs.Sets.{nodesOf, nodes-valid}
 use Rattle.model.specs.Lives.{live-set, live-says}
 use Rattle.model.specs.Monitor.{Monitor, side}
@@ -44,7 +43,7 @@ pub record Witness (T : Plant) (f : Formula) (set : List ℕ) (L : Lasso) : Type
 unfoldable pub hasLive : Plant → Formula → List ℕ → Bool
 hasLive T f set = not (emptyOf (meetOf set (liveSet T f)))
 
-lasso-widen : {edge : Edges} {goals : List Nodes} {Y Z : Nodes} {x : ℕ} {xs ys : List ℕ} → Y ⊆ Z → Lasso.Lasso edge goals Y x xs ys → Lasso.Lasso edge goals Z x xs ys
+lasso-widen : {edge : Edges} {goals : List Nodes} {Y Z : Nodes} {x : ℕ} {xs ys : List ℕ} → Y ⊆ Z → Ring edge goals Y x xs ys → Ring edge goals Z x xs ys
 lasso-widen h l = record {
   knot = l .knot;
   comes = walk-widen h (l .comes);
@@ -57,20 +56,20 @@ module _ (T : Plant) (f : Formula) (A : AcceptedTable T) (small : Small f) where
   unfolding hasLive
   witness-says set = (
     λ e.
-        let (s, v, _, i) = occupant (meetOf set (liveSet T f)) (so-not e) in
-        let (_, (h, k)) = inside-meet set (liveSet T f) s v .0 i in
+        let (s, v, _, i) = occupant (meetOf set (liveSet T f)) (not-true _ e) in
+        let (_, (h, k)) = meet-says set (liveSet T f) s v .0 i in
         let (l, stem, _, loop) = live-short T f (A .few-states) small (A .few-fair) s v (live-says T f A small s v .0 k) in
         (l .lasso, record { state = s; values = v; held = h; walk = l .walk; pair = l .pair; stem = stem; loop = loop }),
     λ (L, w).
         let l : Live T f (w .state) (w .values) = record { lasso = L; walk = w .walk; pair = w .pair } in
         let low : w .values < 64 = (let k = w .pair .small in let p = valuations-few f small in omega arith) in
         rw (occupied (meetOf set (liveSet T f)) (w .state) (w .values) low
-        (inside-meet set (liveSet T f) (w .state) (w .values) .1 (low, (w .held, live-says T f A small (w .state) (w .values) .1 l)))),
+        (meet-says set (liveSet T f) (w .state) (w .values) .1 (low, (w .held, live-says T f A small (w .state) (w .values) .1 l)))),
   )
 
   -- a lasso of pairs, as code walks it in the live set: its states are a witness
   pub ring-witness : (set : List ℕ) (s v : ℕ) (xs ys : List ℕ) → So (inside set s v) → So (inside (liveSet T f) s v)
-      → Lasso.Lasso (edge T f) (goals T f) (nodesOf (liveSet T f)) (node s v) xs ys → length xs ≤ 4095 → length ys ≤ 45056 → Witness T f set (statesOf xs ys)
+      → Ring (edge T f) (goals T f) (nodesOf (liveSet T f)) (node s v) xs ys → length xs ≤ 4095 → length ys ≤ 45056 → Witness T f set (ringStates xs ys)
   ring-witness set s v xs ys held live l stem loop =
       let low : s < 64 = (let h = live-set T f A small .range s v live .0 in let k = A .few-states in omega arith) in
       let r = lasso-widen (nodes-valid (live-set T f A small)) l in

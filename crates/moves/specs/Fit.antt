@@ -1,11 +1,12 @@
 -- Which states fit a move from valuation v to valuation w. Entry v * 6 + k of a table is the word of states for part k at v.
 use Prim.Native.Nat.{ℕ, _+_, _-_, _*_, _^_, _<_}
-use mathlib.Core.Path.{_≡_, refl, sym, _∙_}
-use mathlib.Core.Bool.{Bool, true, false, cond, not, Bool·beq}
+use mathlib.Core.Path.{_≡_, sym, _∙_}
+use mathlib.Core.Bool.{Bool, true, false, cond, Bool·beq}
 use mathlib.Core.List.{List}
 use lib.ListN.{getD}
 use borrow.Author.Tests.{lt-ltb}
 use Rattle.meaning.specs.Bit.{bit}
+use Rattle.words.specs.Truth.{beq-true, beq-false, beq-comm}
 use Rattle.words.specs.Below.{allBelow, sharedBelow}
 use Rattle.words.specs.Laws.{bit-all, bit-not}
 use Rattle.words.specs.Folds.{all-same}
@@ -35,16 +36,8 @@ meetingOf parts nexts operand v w =
 -- ---- what they mean
 
 pub bit-agreeing : (test : Bool) {x : ℕ} → x < 2 ^ 64 → (s : ℕ) → s < 64 → bit (agreeing test x) s ≡ Bool·beq test (bit x s)
-bit-agreeing true {x} h s l = sym (beq-true (bit x s))
-  where
-    beq-true : (b : Bool) → Bool·beq true b ≡ b
-    beq-true true = refl
-    beq-true false = refl
-bit-agreeing false {x} h s l = rw (bit-not 64 h s, lt-ltb s 64 l) (beq-false (bit x s))
-  where
-    beq-false : (b : Bool) → not b ≡ Bool·beq false b
-    beq-false true = refl
-    beq-false false = refl
+bit-agreeing true {x} h s l = sym (beq-comm true (bit x s) ∙ beq-true (bit x s))
+bit-agreeing false {x} h s l = rw (bit-not 64 h s, lt-ltb s 64 l) (sym (beq-comm false (bit x s) ∙ beq-false (bit x s)))
 
 pub bit-fitting : (parts : ℕ) (low high : List ℕ) (v w s : ℕ) → s < 64
     → ((k : ℕ) → unfolded low high v w k < 2 ^ 64)

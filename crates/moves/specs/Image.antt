@@ -5,16 +5,14 @@ use mathlib.Core.Bool.{Bool, So, _&&_}
 use mathlib.Core.List.{List}
 use lib.Bits.{bitAnd}
 use lib.ListN.{length, getD}
-use borrow.Author.Tests.{lt-ltb}
 use Rattle.meaning.specs.Bit.{bit}
 use Rattle.words.specs.Below.{anyBelow, unionBelow, wordsBelow}
 use Rattle.words.specs.Laws.{bit-and}
 use Rattle.words.specs.Folds.{any-same, any-found, any-of}
-use Rattle.words.specs.Truth.{and-both, both-and}
 use Rattle.words.specs.Unions.{bit-union}
-use Rattle.words.specs.Lists.{words-at}
 use Rattle.pairs.specs.Post.{postOf, bit-post}
 use Rattle.pairs.specs.Sets.{inside}
+use Rattle.words.specs.Truth.{and-says}
 
 -- A move from (s, v) to (t, w) is allowed where s is in src v w, t in next s, and t in dst v w.
 module _ (next old : List ℕ) (src dst : ℕ → ℕ → ℕ) where
@@ -56,14 +54,6 @@ module _ (next old : List ℕ) (src dst : ℕ → ℕ → ℕ) where
       moves : (v : ℕ) → bit (postOf next (bitAnd (getD old v 0) (src v w))) t ≡ anyBelow (length next) (movesTo t w v)
       moves v = bit-post next (bitAnd (getD old v 0) (src v w)) t ∙ simp bit-and
 
-  -- a pair is in the image where it is live, agrees, and some pair of the set leads to it
-  pub inside-image : (n : ℕ) (live : List ℕ) (agree t w : ℕ) → w < 64 → w < n
-      → inside (imageOf n live agree) t w ≡ ((inside live t w && bit agree t) && leadsTo n t w)
-  unfolding imageOf
-  inside-image n live agree t w h l =
-      rw (words-at n (imageAt n live agree) w h, lt-ltb w n l)
-      (simp (bit-and, bit-reached))
-
 -- a move of a pair of the set to (t, w)
 pub record MoveTo (next old : List ℕ) (src dst : ℕ → ℕ → ℕ) (n t w : ℕ) : Type 0 where
   pub v : ℕ
@@ -82,15 +72,13 @@ module _ (next old : List ℕ) (src dst : ℕ → ℕ → ℕ) (n t w : ℕ) whe
   pub leads-move : So (leadsTo next old src dst n t w) → MoveTo next old src dst n t w
   leads-move h =
       let a = any-found n (leadsFrom next old src dst t w) h in
-      let b = and-both (anyBelow (length next) (moves (a .0))) (bit (dst (a .0) w) t) (a .2) in
+      let b = and-says (anyBelow (length next) (moves (a .0))) (bit (dst (a .0) w) t) .0 (a .2) in
       let c = any-found (length next) (moves (a .0)) (b .0) in
-      let d = and-both (inside old (c .0) (a .0) && bit (src (a .0) w) (c .0)) (bit (getD next (c .0) 0) t) (c .2) in
-      let e = and-both (inside old (c .0) (a .0)) (bit (src (a .0) w) (c .0)) (d .0) in
+      let d = and-says (inside old (c .0) (a .0) && bit (src (a .0) w) (c .0)) (bit (getD next (c .0) 0) t) .0 (c .2) in
+      let e = and-says (inside old (c .0) (a .0)) (bit (src (a .0) w) (c .0)) .0 (d .0) in
       record { v = a .0; s = c .0; small = a .1; state = c .1; held = e .0; leaves = e .1; allowed = d .1; arrives = b .1 }
 
   pub move-leads : MoveTo next old src dst n t w → So (leadsTo next old src dst n t w)
   move-leads m =
       any-of n (leadsFrom next old src dst t w) (m .v) (m .small)
-      (both-and (anyBelow (length next) (moves (m .v))) (bit (dst (m .v) w) t)
-      (any-of (length next) (moves (m .v)) (m .s) (m .state) (rw (m .held, m .leaves, m .allowed)))
-      (m .arrives))
+      (and-says (anyBelow (length next) (moves (m .v))) (bit (dst (m .v) w) t) .1 (any-of (length next) (moves (m .v)) (m .s) (m .state) (rw (m .held, m .leaves, m .allowed)), m .arrives))

@@ -11,15 +11,16 @@ use lib.ListN.{length, getD}
 use lib.Pow.{pow-mono, pow-pos}
 use Rattle.meaning.specs.Bit.{bit}
 use Rattle.words.specs.Word.{onlyOf}
+use Rattle.words.specs.Within.{Within}
 use Rattle.words.specs.Below.{anyBelow, unionBelow, wordsBelow}
-use Rattle.words.specs.Truth.{and-both}
 use Rattle.words.specs.Laws.{bit-and, bit-only}
 use Rattle.words.specs.Folds.{any-found, any-of}
 use Rattle.words.specs.Unions.{bit-union, union-lt, wordOf-lt}
 use Rattle.words.specs.Lists.{words-at}
 use Rattle.pairs.specs.Sets.{inside}
-use Rattle.moves.specs.Back.{meets, preOf, Within, pre-more}
+use Rattle.moves.specs.Back.{meets, preOf, pre-more}
 use Rattle.moves.specs.Sweep.{Inside, Fit}
+use Rattle.words.specs.Truth.{and-says}
 
 module _ (next : List ℕ) (src dst : ℕ → ℕ → ℕ) (n : ℕ) where
   -- the states at v with a move into the pairs of the set at w
@@ -42,16 +43,16 @@ module _ (next : List ℕ) (src dst : ℕ → ℕ → ℕ) (n : ℕ) where
   -- more pairs in the set, more lead into it
   pub leading-order : n ≤ 64 → (p q : List ℕ) → Inside p q → Inside (leadingOf p) (leadingOf q)
   leading-order most p q f s v h b =
-      let low = and-both (ltb v n) (anyBelow n (λ w. bit (leadingVia p v w) s)) (rw inside-leading at b) in
+      let low = and-says (ltb v n) (anyBelow n (λ w. bit (leadingVia p v w) s)) .0 (rw inside-leading at b) in
       let w = any-found n (λ w. bit (leadingVia p v w) s) (low .1) in
-      let m = and-both (bit (preOf next (bitAnd (getD p (w .0) 0) (dst v (w .0)))) s) (bit (src v (w .0)) s) (rw bit-and at (w .2)) in
+      let m = and-says (bit (preOf next (bitAnd (getD p (w .0) 0) (dst v (w .0)))) s) (bit (src v (w .0)) s) .0 (rw bit-and at (w .2)) in
       rw (inside-leading q s v h, low .0)
       (any-of n (λ w. bit (leadingVia q v w) s) (w .0) (w .1)
       (rw (bit-and, m .1, pre-more next _ _ (wider (w .0) (omega arith)) s (m .0))))
     where
       wider : (w : ℕ) → w < 64 → Within (bitAnd (getD p w 0) (dst v w)) (bitAnd (getD q w 0) (dst v w))
       wider w l t k =
-          let b = and-both (bit (getD p w 0) t) (bit (dst v w) t) (rw bit-and at k) in
+          let b = and-says (bit (getD p w 0) t) (bit (dst v w) t) .0 (rw bit-and at k) in
           rw (bit-and, f t w l (b .0), b .1)
 
   pub leading-bound : length next ≤ 64 → (p : List ℕ) → Fit (leadingOf p)

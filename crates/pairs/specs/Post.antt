@@ -1,49 +1,42 @@
 -- The states that a set's members lead to.
 use Prim.Native.Nat.{ℕ, _<_, _^_}
-use mathlib.Core.Path.{_≡_, refl, sym, ap, _∙_}
-use mathlib.Core.Bool.{Bool, true, false, So, _&&_, _||_, not, false≢true}
-use mathlib.Core.Logic.{⊎-elim}
-use borrow.Author.Tests.{ltb-true, ltb-false, ne-eqb}
-use lib.Dec.{eqb, ltb}
+use mathlib.Core.Path.{_≡_, sym, ap, _∙_}
+use mathlib.Core.Bool.{Bool, So, _&&_, _||_, not}
+use mathlib.Core.Logic.{⊎-elim, inl, inr}
+use native.Mathlib.Decide.{ℕ-discrete}
+use borrow.Author.Tests.{ne-eqb}
+use lib.Dec.{eqb}
 use mathlib.Core.List.{List}
 use lib.Bits.{bitOr}
-use lib.ListN.{length, getD, List·getD-eq-default}
+use lib.ListN.{length, getD}
 use Rattle.meaning.specs.Bit.{bit}
 use Rattle.words.specs.Word.{onlyOf}
 use Rattle.words.specs.Below.{anyBelow, unionBelow}
 use Rattle.words.specs.Laws.{bit-only, bit-zero, bit-or, same-bits, or-assoc}
 use Rattle.words.specs.Lowest.{lowestOf, othersOf, bit-lowest, bit-others}
-use Rattle.words.specs.Truth.{same-or-not, so-ext, and-both, or-cases, or-left, or-right}
+use Rattle.words.specs.Truth.{so-ext, and-says, or-says}
 use Rattle.words.specs.Folds.{any-same, any-found, any-of}
+use Rattle.words.specs.Lists.{entry-inside}
 use Rattle.words.specs.Unions.{bit-union, none-union}
 
 -- what state s adds
-abbrev pub stepOf : List ℕ → ℕ → ℕ → ℕ
-stepOf next set s = onlyOf (bit set s) (getD next s 0)
+abbrev pub addedBy : List ℕ → ℕ → ℕ → ℕ
+addedBy next set s = onlyOf (bit set s) (getD next s 0)
 
 -- the union of next s for each member s of the set
 unfoldable pub postOf : List ℕ → ℕ → ℕ
-postOf next set = unionBelow (length next) (stepOf next set)
+postOf next set = unionBelow (length next) (addedBy next set)
 
 pub bit-post : (next : List ℕ) (set k : ℕ) → bit (postOf next set) k ≡ anyBelow (length next) (λ s. bit set s && bit (getD next s 0) k)
 unfolding postOf
 bit-post next set k =
-    bit-union (length next) (stepOf next set) k
-    ∙ any-same (length next) (λ s. bit (stepOf next set s) k) (λ s. bit set s && bit (getD next s 0) k)
+    bit-union (length next) (addedBy next set) k
+    ∙ any-same (length next) (λ s. bit (addedBy next set s) k) (λ s. bit set s && bit (getD next s 0) k)
     (λ s _. bit-only (bit set s) (getD next s 0) k)
 
 pub post-none : (next : List ℕ) → postOf next 0 ≡ 0
 unfolding postOf
-post-none next = none-union (length next) (stepOf next 0) (λ s _. rw (bit-zero s))
-
--- an entry with a member is within the table
-entry-inside : (next : List ℕ) (s j : ℕ) → So (bit (getD next s 0) j) → s < length next
-entry-inside next s j q = by-test (ltb s (length next)) refl
-  where
-    by-test : (b : Bool) → ltb s (length next) ≡ b → s < length next
-    by-test true e = ltb-true s (length next) e
-    by-test false e =
-        absurd (false≢true (sym (bit-zero j) ∙ rw (← List·getD-eq-default next 0 (ltb-false s (length next) e)) q))
+post-none next = none-union (length next) (addedBy next 0) (λ s _. rw (bit-zero s))
 
 -- where a set leads is where its lowest member leads, and where the others lead
 pub post-lowest : (next : List ℕ) (x : ℕ) → 0 < x → x < 2 ^ 64
@@ -63,12 +56,11 @@ post-lowest next x p h =
     split : (j : ℕ) → So (anyBelow (length next) (all j)) → So (bit (getD next (lowestOf x) 0) j || anyBelow (length next) (rest j))
     split j a =
         let w = any-found (length next) (all j) a in
-        let b = and-both (bit x (w .0)) (bit (getD next (w .0) 0) j) (w .2) in
-        ⊎-elim
-        (λ e. or-left (bit (getD next (lowestOf x) 0) j) (anyBelow (length next) (rest j)) (rw (← e) (b .1)))
-        (λ d. or-right (bit (getD next (lowestOf x) 0) j) (anyBelow (length next) (rest j))
-        (any-of (length next) (rest j) (w .0) (w .1) (rw (bit-others x p h (w .0), b .0, b .1, ne-eqb (w .0) (lowestOf x) d))))
-        (same-or-not (w .0) (lowestOf x))
+        let b = and-says (bit x (w .0)) (bit (getD next (w .0) 0) j) .0 (w .2) in
+        or-says (bit (getD next (lowestOf x) 0) j) (anyBelow (length next) (rest j)) .1 (elim (ℕ-discrete (w .0) (lowestOf x)) [
+          | yes e ↦ inl (rw (← e) (b .1))
+          | no d ↦ inr (any-of (length next) (rest j) (w .0) (w .1) (rw (bit-others x p h (w .0), b .0, b .1, ne-eqb (w .0) (lowestOf x) d)))
+        ])
 
     merge : (j : ℕ) → So (bit (getD next (lowestOf x) 0) j || anyBelow (length next) (rest j)) → So (anyBelow (length next) (all j))
     merge j a =
@@ -76,10 +68,10 @@ post-lowest next x p h =
         (λ q. any-of (length next) (all j) (lowestOf x) (entry-inside next (lowestOf x) j q) (rw (bit-lowest x p h, q)))
         (λ r.
         let w = any-found (length next) (rest j) r in
-        let b = and-both (bit (othersOf x) (w .0)) (bit (getD next (w .0) 0) j) (w .2) in
-        let m = and-both (bit x (w .0)) (not (eqb (w .0) (lowestOf x))) (rw (bit-others x p h (w .0)) at (b .0)) in
+        let b = and-says (bit (othersOf x) (w .0)) (bit (getD next (w .0) 0) j) .0 (w .2) in
+        let m = and-says (bit x (w .0)) (not (eqb (w .0) (lowestOf x))) .0 (rw (bit-others x p h (w .0)) at (b .0)) in
         any-of (length next) (all j) (w .0) (w .1) (rw (m .0, b .1)))
-        (or-cases (bit (getD next (lowestOf x) 0) j) (anyBelow (length next) (rest j)) a)
+        (or-says (bit (getD next (lowestOf x) 0) j) (anyBelow (length next) (rest j)) .0 a)
 
 -- a turn of a loop over the members
 pub post-turn : (next : List ℕ) (reached x : ℕ) → 0 < x → x < 2 ^ 64

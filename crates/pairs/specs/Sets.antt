@@ -1,18 +1,19 @@
 -- Sets of pairs as lists of 64 words: state s with valuation v is in the set where word v has the member s.
-use Prim.Native.Nat.{ℕ, _<_}
+use Prim.Native.Nat.{ℕ, _≤_, _<_}
 use native.Mathlib.Omega.{arith}
+use native.Mathlib.Decide.{decLt}
 use mathlib.Core.Path.{_≡_, sym, _∙_}
-use mathlib.Core.Bool.{Bool, true, false, So, _||_}
+use mathlib.Core.Bool.{Bool, true, false, So, _&&_, _||_}
 use mathlib.Core.List.{List}
 use lib.Bits.{bitOr, bitXor, xor-add-and, and-le-l, and-le-r, xor-self}
-use lib.Dec.{eqb}
-use lib.ListN.{length, getD}
-use borrow.Author.Tests.{lt-ltb, eq-eqb, eqb-true, not-true}
+use lib.Dec.{eqb, ltb}
+use lib.ListN.{length, getD, List·getD-eq-default}
+use borrow.Author.Tests.{le-ltb, eq-eqb, eqb-true, not-true}
 use Rattle.meaning.specs.Bit.{bit}
 use Rattle.words.specs.Folds.{any-same, any-or, any-found, any-of, count-same}
 use Rattle.words.specs.Unions.{bit-union, union-none, none-union, member-some, some-member}
-use Rattle.words.specs.Lists.{words-at, words-ext}
-use Rattle.words.specs.Laws.{bit-or}
+use Rattle.words.specs.Lists.{words-at, words-ext, length-words}
+use Rattle.words.specs.Laws.{bit-zero, bit-only, bit-or, same-bits}
 use Rattle.words.specs.Below.{anyBelow, countBelow, unionBelow, wordsBelow}
 
 -- the pair of state s and valuation v is in the set
@@ -79,10 +80,29 @@ left-ones p q = count-same 64 (bit (bitOr (statesOf p) (statesOf q))) (occursIn 
         (sym (any-same 64 (λ v. bit (joinedAt p q v) s) (λ v. inside p s v || inside q s v) (λ v _. bit-or (getD p v 0) (getD q v 0) s)
         ∙ any-or 64 (λ v. inside p s v) (λ v. inside q s v)))
 
--- a pair is in the union where it is in one of the two
-pub inside-join : (p q : List ℕ) (s v : ℕ) → v < 64 → inside (joinOf p q) s v ≡ (inside p s v || inside q s v)
+-- a pair is in the words that a loop below n makes
+pub inside-words : (n : ℕ) (f : ℕ → ℕ) → n ≤ 64 → (s v : ℕ) → inside (wordsBelow n f) s v ≡ (ltb v n && bit (f v) s)
+inside-words n f few s v = go (decLt v 64)
+  where
+    go : Dec (v < 64) → inside (wordsBelow n f) s v ≡ (ltb v n && bit (f v) s)
+    go (yes l) = rw (words-at n f v l) (bit-only (ltb v n) (f v) s)
+    go (no g) = rw (
+      List·getD-eq-default (wordsBelow n f) 0 {n = v} (rw length-words (omega arith)),
+      le-ltb v n (omega arith),
+    ) (bit-zero s)
+
+pub length-join : (p q : List ℕ) → length (joinOf p q) ≡ 64
 unfolding joinOf
-inside-join p q s v h = rw (words-at 64 (joinedAt p q) v h, lt-ltb v 64 h) (bit-or (getD p v 0) (getD q v 0) s)
+length-join p q = length-words 64 (joinedAt p q)
+
+-- a pair is in the union where it is in one of the two
+pub inside-join : (p q : List ℕ) (s v : ℕ) → inside (joinOf p q) s v ≡ (ltb v 64 && (inside p s v || inside q s v))
+unfolding joinOf
+inside-join p q s v = rw (inside-words 64 (joinedAt p q) (omega arith) s v, bit-or)
+
+-- sets with the same pairs are equal
+pub pairs-ext : (p q : List ℕ) → length p ≡ 64 → length q ≡ 64 → ((s v : ℕ) → v < 64 → inside p s v ≡ inside q s v) → p ≡ q
+pairs-ext p q hp hq e = words-ext p q hp hq (λ v h. same-bits (getD p v 0) (getD q v 0) (λ s. e s v h))
 
 -- the test of sameness tells equal sets from others
 pub same-equal : (p q : List ℕ) → length p ≡ 64 → length q ≡ 64 → sameOf p q ≡ true → p ≡ q

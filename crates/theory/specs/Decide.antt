@@ -9,10 +9,11 @@ use Rattle.meaning.specs.Bit.{bit}
 use Rattle.meaning.specs.Says.{Says}
 use Rattle.meaning.specs.Formula.{Formula, never, always, prop, neg, next, finally, globally, until, release, and, or, implies, Holds}
 use Rattle.meaning.specs.Run.{Plant, Lasso, wordOf}
-use Rattle.theory.specs.Says.{says-not, says-and, says-or, says-implies, says-true, says-false}
 use Rattle.words.specs.Below.{anyBelow, allBelow}
-use Rattle.theory.specs.Tests.{le-says, any-says, all-says}
 use Rattle.theory.specs.Period.{horizon, near}
+use Rattle.words.specs.Truth.{says-not, says-and, says-or, says-implies, says-true, says-false}
+use Rattle.words.specs.Tests.{le-says}
+use Rattle.words.specs.Folds.{any-says, all-says}
 
 -- whether the rule holds at position i of the lasso
 unfoldable pub truth : Plant → Lasso → Formula → ℕ → Bool
@@ -66,6 +67,7 @@ module _ (T : Plant) (L : Lasso) (loops : 0 < length (L .loop)) where
         λ h j _ le. ⊎-map (λ x. x) (λ (y, n, m, g). (y, m, (n, g))) (h j le),
       )
 
+  -- it says whether the rule holds
   pub truth-says : (f : Formula) → Right f
   unfolding Holds truth
   truth-says never i = says-false

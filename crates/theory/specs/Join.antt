@@ -1,16 +1,18 @@
 -- Lassos put together: a list of states before a lasso, and two lassos joined.
-use Prim.Native.Nat.{ℕ, zero, suc, _+_, _-_, _%_, _<_}
+use Prim.Native.Nat.{ℕ, suc, _+_, _-_, _%_, _<_}
 use native.Mathlib.Omega.{arith}
 use native.Mathlib.Nat.{add-zero, add-suc, eq-or-lt-of-le}
 use native.Mathlib.Decide.{decLt}
-use mathlib.Core.Path.{_≡_, refl, sym, ap, _∙_}
+use mathlib.Core.Path.{_≡_, sym, ap, _∙_}
 use mathlib.Core.Logic.{_⊎_, inl, inr, ⊎-elim}
 use mathlib.Core.Bool.{So}
-use mathlib.Core.List.{List, [], _∷_, _++_}
+use mathlib.Core.List.{List, _++_}
 use lib.ListN.{length, getD, length-append, List·getD-append}
 use lib.Seq.{getD-append-add}
 use borrow.Author.Tests.{lt-ltb, le-ltb}
 use Rattle.meaning.specs.Bit.{bit}
+use Rattle.words.specs.Below.{listBelow}
+use Rattle.words.specs.Lists.{length-list, list-at}
 use Rattle.meaning.specs.Run.{Plant, Lasso, FairLasso, stateAt, nextOf}
 
 -- below n, or n and so many more
@@ -22,6 +24,7 @@ below-or-beyond n i = go (decLt i n)
     go (no h) = inr (i - n, omega arith)
 
 module _ (L : Lasso) where
+  -- the states of the stem, and those of the loop
   pub in-stem : (i : ℕ) → i < length (L .stem) → stateAt L i ≡ getD (L .stem) i 0
   unfolding stateAt
   in-stem i h = rw (lt-ltb i (length (L .stem)))
@@ -36,11 +39,13 @@ unfoldable pub after : List ℕ → Lasso → Lasso
 after xs L = record { stem = xs ++ L .stem; loop = L .loop }
 
 module _ (xs : List ℕ) (L : Lasso) where
+  -- first the states xs
   pub after-first : (i : ℕ) → i < length xs → stateAt (after xs L) i ≡ getD xs i 0
   unfolding after
   after-first i h =
       in-stem (after xs L) i (rw length-append (omega arith)) ∙ List·getD-append xs (L .stem) 0 i h
 
+  -- then those of L
   pub after-then : (j : ℕ) → stateAt (after xs L) (length xs + j) ≡ stateAt L j
   unfolding after
   after-then j = ⊎-elim near (λ b. far (b .0) (b .1)) (below-or-beyond (length (L .stem)) j)
@@ -69,53 +74,42 @@ module _ (xs : List ℕ) (L : Lasso) where
     fair = walk .fair;
   }
 
--- the first n values of g
-unfoldable pub upto : (ℕ → ℕ) → ℕ → List ℕ
-upto g zero = []
-upto g (suc n) = g zero ∷ upto (λ i. g (suc i)) n
-
-pub length-upto : (g : ℕ → ℕ) (n : ℕ) → length (upto g n) ≡ n
-unfolding upto
-length-upto g zero = refl
-length-upto g (suc n) = ap suc (length-upto (λ i. g (suc i)) n)
-
-pub getD-upto : (g : ℕ → ℕ) (n i : ℕ) → i < n → getD (upto g n) i 0 ≡ g i
-unfolding upto
-getD-upto g zero i h = absurd (omega arith)
-getD-upto g (suc n) zero h = refl
-getD-upto g (suc n) (suc i) h = getD-upto (λ i. g (suc i)) n i (omega arith)
-
 -- the first n values of g, then a lasso: its states
 module _ (g : ℕ → ℕ) (n : ℕ) (L : Lasso) where
   abbrev pub upto-after : Lasso
-  upto-after = after (upto g n) L
+  upto-after = after (listBelow n g) L
 
+  -- first the values
   pub upto-first : (i : ℕ) → i < n → stateAt upto-after i ≡ g i
-  upto-first i h = after-first (upto g n) L i (rw length-upto h) ∙ getD-upto g n i h
+  upto-first i h = after-first (listBelow n g) L i (rw length-list h) ∙ list-at n g i h
 
+  -- then the lasso
   pub upto-then : (j : ℕ) → stateAt upto-after (n + j) ≡ stateAt L j
-  upto-then j = rw (length-upto g n) at (after-then (upto g n) L j)
+  upto-then j = rw (length-list n g) at (after-then (listBelow n g) L j)
 
 -- the first n states of L, then L'
 abbrev pub join : Lasso → ℕ → Lasso → Lasso
-join L n L' = after (upto (stateAt L) n) L'
+join L n L' = after (listBelow n (stateAt L)) L'
 
 module _ (L : Lasso) (n : ℕ) (L' : Lasso) where
+  -- first the states of L
   pub join-first : (j : ℕ) → j < n → stateAt (join L n L') j ≡ stateAt L j
   join-first j h = upto-first (stateAt L) n L' j h
 
+  -- then those of L'
   pub join-then : (j : ℕ) → stateAt (join L n L') (n + j) ≡ stateAt L' j
   join-then j = upto-then (stateAt L) n L' j
 
+  -- which meet at position n
   pub join-seam : stateAt (join L n L') n ≡ stateAt L' 0
   join-seam = rw (add-zero n) at (join-then 0)
 
   -- it is a fair walk where the last state taken of L may be followed by the first of L'
   pub join-fair : (T : Plant) → FairLasso T L → FairLasso T L'
       → ((m : ℕ) → suc m ≡ n → So (bit (nextOf T (stateAt L m)) (stateAt L' 0))) → FairLasso T (join L n L')
-  join-fair T walk walk' seam = after-fair (upto (stateAt L) n) L' T walk' λ j h.
-      let lt : j < n = rw length-upto at h in
-      rw (getD-upto (stateAt L) n j lt) (walk .within j, ⊎-elim (now j) (before j) (eq-or-lt-of-le lt))
+  join-fair T walk walk' seam = after-fair (listBelow n (stateAt L)) L' T walk' λ j h.
+      let lt : j < n = rw length-list at h in
+      rw (list-at n (stateAt L) j lt) (walk .within j, ⊎-elim (now j) (before j) (eq-or-lt-of-le lt))
     where
       Moves : ℕ → Type 0
       Moves j = So (bit (nextOf T (stateAt L j)) (stateAt (join L n L') (suc j)))

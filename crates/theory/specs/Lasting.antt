@@ -8,13 +8,13 @@ use Rattle.meaning.specs.Bit.{bit}
 use Rattle.meaning.specs.Says.{Says}
 use Rattle.meaning.specs.Formula.{Formula, never, always, prop, neg, next, finally, globally, until, release, and, or, implies, parts, temporal, Word, Holds}
 use Rattle.meaning.specs.Pair.{Gives}
-use Rattle.theory.specs.Move.{value, Value, Part, nextPart, untilPart, releasePart, fit, settled, table, fits}
-use Rattle.theory.specs.Says.{says-itself, says-true, says-false, same-beq}
-use Rattle.theory.specs.Each.{Each, each-append, each-of, each-member, Numbered}
-use Rattle.theory.specs.Tests.{every-says}
+use Rattle.meaning.specs.Step.{value, Value, Part, nextPart, untilPart, releasePart, fit, table, fits}
+use Rattle.theory.specs.Move.{settled}
+use Rattle.theory.specs.Each.{Each, each-append, each-of, each-member, Numbered, every-says}
 use Rattle.theory.specs.Until.{Until, Release, Again, until-says, release-says, finally-until, globally-release}
 use Rattle.theory.specs.Parts.{parts-append, Given, Right, gives-right}
 use Rattle.theory.specs.Fit.{value-right}
+use Rattle.words.specs.Truth.{says-itself, says-true, says-false, beq-says}
 
 -- along the labels w and the values v the part fits at every step, and is settled again and again
 pub record Lasts (w : Word) (v : ℕ → ℕ) (c : Part) : Type 0 where
@@ -28,15 +28,15 @@ module _ (w : Word) (v : ℕ → ℕ) where
 
   next-lasts : {Q : ℕ → Type 0} {k : ℕ} {b : Value} → Tells b Q → Lasts w v (nextPart k b) → Tells (λ l v. bit v k) (λ i. Q (suc i))
   unfolding fit
-  next-lasts {Q} q h i = subst (λ (b : Bool). Says b (Q (suc i))) (sym (same-beq _ _ .0 (h .fits i))) (q (suc i))
+  next-lasts {Q} q h i = subst (λ (b : Bool). Says b (Q (suc i))) (sym (beq-says _ _ .0 (h .fits i))) (q (suc i))
 
   until-lasts : {P Q : ℕ → Type 0} {k : ℕ} {a b : Value} → Tells a P → Tells b Q → Lasts w v (untilPart k a b) → Tells (λ l v. bit v k) (Until P Q)
   unfolding fit settled
-  until-lasts {k = k} p q h = until-says p q (λ i. bit (v i) k) (λ i. same-beq _ _ .0 (h .fits i)) (h .again)
+  until-lasts {k = k} p q h = until-says p q (λ i. bit (v i) k) (λ i. beq-says _ _ .0 (h .fits i)) (h .again)
 
   release-lasts : {P Q : ℕ → Type 0} {k : ℕ} {a b : Value} → Tells a P → Tells b Q → Lasts w v (releasePart k a b) → Tells (λ l v. bit v k) (Release P Q)
   unfolding fit settled
-  release-lasts {k = k} p q h = release-says p q (λ i. bit (v i) k) (λ i. same-beq _ _ .0 (h .fits i)) (h .again)
+  release-lasts {k = k} p q h = release-says p q (λ i. bit (v i) k) (λ i. beq-says _ _ .0 (h .fits i)) (h .again)
 
   abbrev Always : Formula → ℕ → Type 0
   Always f n = (i : ℕ) → Right w f n (v i) i

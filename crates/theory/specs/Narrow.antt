@@ -6,6 +6,7 @@ use mathlib.Core.Logic.{_⊎_, inl, inr}
 use mathlib.Core.Bool.{Bool, true, false, So, false≢true}
 use mathlib.Core.List.{List, Forall₂, Forall₂·nil, Forall₂·cons}
 use lib.ListN.{length}
+use Rattle.words.specs.Truth.{not-so}
 use Rattle.meaning.specs.Bit.{bit}
 use Rattle.meaning.specs.Formula.{Formula}
 use Rattle.meaning.specs.Run.{Plant, FairLasso, stateAt, labelOf, nextOf}
@@ -21,17 +22,16 @@ pub record Narrower (n n' : ℕ) : Type 0 where
   pub from-out : n ≡ 3 → n' ≡ 3
 
 -- runs of each kind are possible then only where they are now
-pub narrow : {a b a' b' : Bool} → (So a' → So a) → (So b' → So b) → Narrower (verdictOf a b) (verdictOf a' b')
+pub verdict-narrows : {a b a' b' : Bool} → (So a' → So a) → (So b' → So b) → Narrower (verdictOf a b) (verdictOf a' b')
 unfolding verdictOf
-narrow {a} {b} {a'} {b'} h k = record {
+verdict-narrows {a} {b} {a'} {b'} h k = record {
   from-true = λ e. let (_, n) = verdict-inj a b true false .0 e in rw (lost b b' k n) (pick a' (λ c. verdictOf c false) refl refl);
   from-false = λ e. let (n, _) = verdict-inj a b false true .0 e in rw (lost a a' h n) (pick b' (λ c. verdictOf false c) refl refl);
   from-out = λ e. let (m, n) = verdict-inj a b false false .0 e in rw (lost a a' h m, lost b b' k n);
 }
   where
     lost : (x x' : Bool) → (So x' → So x) → x ≡ false → x' ≡ false
-    lost x true h e = absurd (false≢true (sym e ∙ h refl))
-    lost x false h e = refl
+    lost x x' h e = not-so x' (λ i. false≢true (sym e ∙ h i))
 
     pick : {m n : ℕ} (c : Bool) (v : Bool → ℕ) → v true ≡ m → v false ≡ n → (v c ≡ m) ⊎ (v c ≡ n)
     pick true v p q = inl p
@@ -53,6 +53,7 @@ finer-at (Forall₂·cons k t) (suc i) lt = let r = finer-at t i (omega arith) i
 abbrev pub FinerHistory : History → History → Type 0
 FinerHistory h h' = Forall₂ Finer (h .events) (h' .events) × (h .mark ≡ h' .mark)
 
+-- with a better sensor fewer runs agree
 pub finer-fewer : (T : Plant) (f : Formula) (h h' : History) → FinerHistory h h' → (b : Bool) → Possible T f h' b → Possible T f h b
 finer-fewer T f h h' (fine, same) b (L, c) = (
   L,
@@ -64,6 +65,7 @@ finer-fewer T f h h' (fine, same) b (L, c) = (
   },
 )
 
+-- and after one more event
 pub more-fewer : (T : Plant) (f : Formula) (h : History) (e : Seen) (b : Bool) → Possible T f (more h e) b → Possible T f h b
 more-fewer T f h e b (L, c) = (L, record { run = c .run; agrees = agrees-more T L (h .events) e .0 (c .agrees) .0; judged = c .judged })
 
@@ -75,6 +77,7 @@ pub record Smaller (T' T : Plant) : Type 0 where
   pub label : T' .label ≡ T .label
   pub fair : T' .fair ≡ T .fair
 
+-- and on a smaller table
 pub smaller-fewer : (T' T : Plant) (f : Formula) (h : History) → Smaller T' T → (b : Bool) → Possible T' f h b → Possible T f h b
 smaller-fewer T' T f h k b (L, c) = (
   L,

@@ -1,5 +1,5 @@
 -- Where the runs that agree with what was seen can now be: before any event, and at the first.
-use Prim.Native.Nat.{ℕ, _+_, _≤_, _<_, _^_}
+use Prim.Native.Nat.{ℕ, _+_, _≤_, _<_}
 use native.Mathlib.Omega.{arith}
 use native.Mathlib.Nat.{eq-or-lt-of-le}
 use mathlib.Core.Path.{_≡_, sym, ap}
@@ -9,19 +9,16 @@ use mathlib.Core.List.{List, [], _∷_, _++_}
 use lib.ListN.{length, length-append, List·getD-append}
 use lib.Seq.{getD-append-seam}
 use Rattle.meaning.specs.Bit.{bit}
-use Rattle.meaning.specs.Formula.{Formula, parts}
+use Rattle.meaning.specs.Formula.{Formula}
 use Rattle.meaning.specs.Run.{Plant, Lasso, FairLasso, stateAt, wordOf, labelOf}
 use Rattle.meaning.specs.Event.{Seen, Agrees, AgreesWith, seenAt, nothing, History, none, more, now}
-use Rattle.theory.specs.Move.{value}
+use Rattle.meaning.specs.Step.{value}
 use Rattle.meaning.specs.Pair.{PairAt, Live}
 use Rattle.meaning.specs.Verdict.{Chosen, At}
-use Rattle.theory.specs.Says.{kept-value, kept-iff}
 use Rattle.theory.specs.Values.{valuesAt, pair-of}
 use Rattle.theory.specs.Past.{same-past}
 use Rattle.theory.specs.Along.{pair-says}
-
-pub at-range : (T : Plant) (f : Formula) (b : Bool) (h : History) (s v : ℕ) → At T f b h s v → (s < T .states) × (v < 2 ^ parts f)
-at-range T f b h s v a = (rw (a .pair .state) at (a .chosen .run .walk .within (now h)), a .pair .small)
+use Rattle.words.specs.Truth.{kept-value, kept-iff}
 
 module _ (T : Plant) (L : Lasso) where
   agrees-none : AgreesWith T L []

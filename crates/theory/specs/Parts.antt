@@ -9,16 +9,15 @@ use mathlib.Core.Bool.{Bool, true, So}
 use lib.ListN.{length, getD, length-append}
 use Rattle.meaning.specs.Bit.{bit}
 use Rattle.words.specs.Below.{allBelow}
-use Rattle.words.specs.Truth.{so-ext}
 use Rattle.words.specs.Folds.{all-at, all-of}
 use Rattle.meaning.specs.Says.{Says}
 use Rattle.meaning.specs.Formula.{Formula, never, always, prop, neg, next, finally, globally, until, release, and, or, implies, parts, temporal, Word, Holds}
 use Rattle.meaning.specs.Pair.{Gives}
-use Rattle.theory.specs.Move.{Part, nextPart, untilPart, releasePart, table, every}
-use Rattle.theory.specs.Says.{says-itself}
-use Rattle.theory.specs.Tests.{every-says}
-use Rattle.theory.specs.Each.{Each, each-at, each-places, Numbered, numbered-append, numbered-at, numbered-of}
+use Rattle.meaning.specs.Step.{Part, nextPart, untilPart, releasePart, table, every}
+use Rattle.theory.specs.Each.{Each, each-at, each-places, Numbered, numbered-append, numbered-at, numbered-of, every-says}
+use Rattle.words.specs.Truth.{so-ext, says-itself}
 
+-- the parts and their table are as many as they should be
 pub length-temporal : (f : Formula) → length (temporal f) ≡ parts f
 unfolding temporal parts
 length-temporal never = refl
@@ -62,6 +61,7 @@ Given w v i g k = Says (bit v k) (Holds w g i)
 abbrev pub Right : Word → Formula → ℕ → ℕ → ℕ → Type 0
 Right w f n v i = Numbered (Given w v i) (temporal f) n
 
+-- to give each part its truth, by its number
 pub gives-right : (w : Word) (f : Formula) (v i : ℕ) → Gives w f v i ↔ Right w f 0 v i
 gives-right w f v i = (
   λ g. numbered-of (Given w v i) never (temporal f) 0 (λ k lt. rw zero-add (g k (rw (← (length-temporal f)) lt))),
@@ -72,19 +72,20 @@ gives-right w f v i = (
 abbrev pub partOf : Formula → ℕ → Part
 partOf f k = getD (table f 0) k (nextPart 0 (λ l v. true))
 
-unfoldable pub numberOf : Part → ℕ
-numberOf (nextPart k a) = k
-numberOf (untilPart k a b) = k
-numberOf (releasePart k a b) = k
+-- the part's number
+unfoldable pub partNumber : Part → ℕ
+partNumber (nextPart k a) = k
+partNumber (untilPart k a b) = k
+partNumber (releasePart k a b) = k
 
 Has : Part → ℕ → Type 0
-Has c k = numberOf c ≡ k
+Has c k = partNumber c ≡ k
 
 two : (a b : Formula) (cs : List Part) (n : ℕ) → Numbered Has (table a n) n → Numbered Has cs (n + parts a) → Numbered Has (table a n ++ cs) n
 two a b cs n h k = numbered-append Has (table a n) cs n .1 (h, rw (length-table a n) k)
 
 table-numbered : (f : Formula) (n : ℕ) → Numbered Has (table f n) n
-unfolding table Has numberOf
+unfolding table Has partNumber
 table-numbered never n = tt
 table-numbered always n = tt
 table-numbered (prop p) n = tt
@@ -99,7 +100,7 @@ table-numbered (or a b) n = two a b _ n (table-numbered a n) (table-numbered b (
 table-numbered (implies a b) n = two a b _ n (table-numbered a n) (table-numbered b (n + parts a))
 
 -- it has the number k
-pub part-number : (f : Formula) (k : ℕ) → k < parts f → numberOf (partOf f k) ≡ k
+pub part-number : (f : Formula) (k : ℕ) → k < parts f → partNumber (partOf f k) ≡ k
 unfolding Has
 part-number f k lt = rw zero-add at (numbered-at Has (nextPart 0 (λ l v. true)) (table f 0) 0 (table-numbered f 0) k (rw (length-table f 0) lt))
 

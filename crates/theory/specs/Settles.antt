@@ -11,13 +11,14 @@ use Rattle.meaning.specs.Says.{Says}
 use Rattle.meaning.specs.Formula.{Formula, never, always, prop, neg, next, finally, globally, until, release, and, or, implies, parts, temporal, Word, Holds}
 use Rattle.meaning.specs.Run.{Plant, Lasso, wordOf}
 use Rattle.meaning.specs.Pair.{Gives}
-use Rattle.theory.specs.Move.{value, Part, settled, table}
-use Rattle.theory.specs.Says.{says-itself, true-or-false, says-dec, says-not, says-or, says-implies}
+use Rattle.meaning.specs.Step.{value, Part, table}
+use Rattle.theory.specs.Move.{settled}
 use Rattle.theory.specs.Each.{Each, each-append, Numbered}
 use Rattle.theory.specs.Until.{Again}
 use Rattle.theory.specs.Parts.{parts-append, Given, Right, gives-right}
 use Rattle.theory.specs.Fit.{value-right}
 use Rattle.theory.specs.Decide.{truth-says}
+use Rattle.words.specs.Truth.{says-itself, true-or-false, says-dec, says-not, says-or, says-implies}
 
 module _ (T : Plant) (L : Lasso) (loops : 0 < length (L .loop)) where
   abbrev w : Word
@@ -114,5 +115,6 @@ module _ (T : Plant) (L : Lasso) (loops : 0 < length (L .loop)) where
     right-settles (or a b) n g = both a b n (right-settles a n) (right-settles b (n + parts a)) g
     right-settles (implies a b) n g = both a b n (right-settles a n) (right-settles b (n + parts a)) g
 
+    -- right values settle every part
     pub settles : (f : Formula) → ((i : ℕ) → Gives w f (v i) i) → Settled (table f 0)
     settles f g = right-settles f 0 (λ i. gives-right w f (v i) i .0 (g i))

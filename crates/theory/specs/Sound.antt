@@ -3,22 +3,22 @@ use Prim.Native.Nat.{ℕ, suc, _+_, _%_, _<_}
 use native.Mathlib.Nat.{mod-lt}
 use mathlib.Core.Path.{_≡_, sym, ap, _∙_}
 use mathlib.Core.Logic.{⊎-elim}
-use mathlib.Core.Bool.{So, and-eq-true-iff}
+use mathlib.Core.Bool.{So}
 use mathlib.Core.List.{List, map}
 use lib.ListN.{length, getD, length-map, List·getD-map}
 use Rattle.meaning.specs.Bit.{bit}
-use Rattle.graphs.specs.Number.{node-first, node-second}
-use Rattle.graphs.specs.Lasso
+use Rattle.graphs.specs.Lasso.{Ring}
 use Rattle.meaning.specs.Formula.{Formula}
 use Rattle.meaning.specs.Run.{Plant, Lasso, FairLasso, stateAt, labelOf, nextOf, wordOf}
 use Rattle.meaning.specs.Pair.{PairAt, Live}
-use Rattle.theory.specs.Move.{fits, table}
+use Rattle.meaning.specs.Step.{fits, table}
 use Rattle.theory.specs.Each.{Each, each-of, each-at, each-imp}
 use Rattle.theory.specs.Until.{Again}
 use Rattle.theory.specs.Join.{below-or-beyond, in-stem, in-loop}
 use Rattle.theory.specs.Lasting.{lasting}
-use Rattle.theory.specs.Node.{node, stateOf, valuesOf, valid, valid-says, edge, settledAt, goals, each-goal}
+use Rattle.theory.specs.Node.{node, node-first, node-second, stateOf, valuesOf, valid, valid-says, edge, settledAt, goals, each-goal}
 use Rattle.theory.specs.Ring.{getD-any, ring-first, ring-moves, ring-within, ring-meets, ring-again}
+use Rattle.words.specs.Truth.{and-says}
 
 -- a lasso seen through g
 abbrev image : (ℕ → ℕ) → Lasso → Lasso
@@ -40,24 +40,25 @@ image-at g K loops i = ⊎-elim stem (λ (j, e). round j e) (below-or-beyond (le
         rw e (there ∙ through g (K .loop) (j % length (K .loop)) (mod-lt j loops) ∙ ap g (sym (in-loop K j)))
 
 -- the states of a lasso of nodes
-abbrev pub statesOf : List ℕ → List ℕ → Lasso
-statesOf xs ys = record { stem = map stateOf xs; loop = map stateOf ys }
+abbrev pub ringStates : List ℕ → List ℕ → Lasso
+ringStates xs ys = record { stem = map stateOf xs; loop = map stateOf ys }
 
-module _ (T : Plant) (f : Formula) (s v : ℕ) (low : s < 64) (xs ys : List ℕ) (l : Lasso.Lasso (edge T f) (goals T f) (valid T f) (node s v) xs ys) where
+module _ (T : Plant) (f : Formula) (s v : ℕ) (low : s < 64) (xs ys : List ℕ) (l : Ring (edge T f) (goals T f) (valid T f) (node s v) xs ys) where
   abbrev K : Lasso
   K = record { stem = xs; loop = ys }
 
   abbrev L : Lasso
-  L = statesOf xs ys
+  L = ringStates xs ys
 
   state : (i : ℕ) → stateAt L i ≡ stateOf (stateAt K i)
   state i = image-at stateOf K (l .turns .moves) i
 
   steps : (i : ℕ) → So (bit (nextOf T (stateOf (stateAt K i))) (stateOf (stateAt K (suc i))))
       × So (fits f (labelOf T (stateOf (stateAt K i))) (valuesOf (stateAt K i)) (labelOf T (stateOf (stateAt K (suc i)))) (valuesOf (stateAt K (suc i))))
-  steps i = and-eq-true-iff _ _ .0 (ring-moves l i)
+  steps i = and-says _ _ .0 (ring-moves l i)
 
-  pub ring-fair : FairLasso T (statesOf xs ys)
+  -- the states are a fair lasso
+  pub ring-fair : FairLasso T (ringStates xs ys)
   ring-fair = record {
     loops = rw length-map (l .turns .moves);
     within = λ i. rw (state i) (valid-says T f (stateAt K i) .0 (ring-within l i) .0);
@@ -70,17 +71,18 @@ module _ (T : Plant) (f : Formula) (s v : ℕ) (low : s < 64) (xs ys : List ℕ)
   settled-again : Each (λ c. Again (λ i. settledAt T c (stateAt K i))) (table f 0)
   settled-again = each-goal T f (λ g. Again (λ i. g (stateAt K i))) .0 (each-of _ (goals T f) (ring-again l)) .1
 
-  pub ring-pair : PairAt T f (statesOf xs ys) 0 s v
+  -- that gives the parts of s and v at its first position
+  pub ring-pair : PairAt T f (ringStates xs ys) 0 s v
   ring-pair = record {
-    state = state 0 ∙ ap stateOf (ring-first l) ∙ node-first 64 s v low;
+    state = state 0 ∙ ap stateOf (ring-first l) ∙ node-first s v low;
     gives = rw first at (lasting (wordOf T L) (λ i. valuesOf (stateAt K i)) f (λ i. rw (state i, state (suc i)) (steps i .1))
         (each-imp _ _ (λ c h i. let (j, le, m) = h i in (j, le, rw (state j) m)) (table f 0) settled-again) 0);
     small = rw first at (valid-says T f (stateAt K 0) .0 (ring-within l 0) .1);
   }
     where
       first : valuesOf (stateAt K 0) ≡ v
-      first = ap valuesOf (ring-first l) ∙ node-second 64 s v low
+      first = ap valuesOf (ring-first l) ∙ node-second s v low
 
   -- the pair is live by these states
   unfoldable pub ring-live : Live T f s v
-  ring-live = record { lasso = statesOf xs ys; walk = ring-fair; pair = ring-pair }
+  ring-live = record { lasso = ringStates xs ys; walk = ring-fair; pair = ring-pair }

@@ -4,20 +4,21 @@ use native.Mathlib.Omega.{arith}
 use native.Mathlib.Nat.{add-zero, suc-inj}
 use mathlib.Core.Path.{_≡_, sym, subst, ap, _∙_}
 use mathlib.Core.Logic.{_↔_}
-use mathlib.Core.Bool.{Bool, So, and-eq-true-iff}
+use mathlib.Core.Bool.{Bool, So}
 use lib.ListN.{length, length-append}
 use Rattle.meaning.specs.Bit.{bit}
 use Rattle.meaning.specs.Formula.{Formula}
 use Rattle.meaning.specs.Run.{Plant, Lasso, FairLasso, stateAt, labelOf, nextOf}
 use Rattle.meaning.specs.Event.{Seen, Agrees, History, more, now}
 use Rattle.meaning.specs.Pair.{PairAt, Live}
-use Rattle.theory.specs.Move.{leads}
+use Rattle.meaning.specs.Step.{leads}
 use Rattle.meaning.specs.Verdict.{Chosen, At}
 use Rattle.theory.specs.Values.{valuesAt, pair-of}
 use Rattle.theory.specs.Join.{join, join-first, join-then, join-fair}
 use Rattle.theory.specs.From.{from, from-state, from-fair}
 use Rattle.theory.specs.Along.{pair-leads, pair-back, pair-tail}
 use Rattle.theory.specs.Opening.{agrees-more, chosen-same}
+use Rattle.words.specs.Truth.{and-says}
 
 -- what is left of a fair walk makes its pairs live
 pub pair-live : (T : Plant) (f : Formula) (L : Lasso) (i s v : ℕ) → FairLasso T L → PairAt T f L i s v → Live T f s v
@@ -44,7 +45,7 @@ module _ (T : Plant) (f : Formula) (b : Bool) (h : History) where
       let L = a .lasso in
       let L' = live .lasso in
       let J = join L (suc n) L' in
-      let ts = and-eq-true-iff _ _ .0 t in
+      let ts = and-says _ _ .0 t in
       let move : So (bit (nextOf T (stateAt L n)) (stateAt L' 0)) = rw (a .pair .state, live .pair .state) (ts .0) in
       let walk : FairLasso T J = join-fair L (suc n) L' T (a .chosen .run .walk) (live .walk)
       (λ m e. subst (λ (k : ℕ). So (bit (nextOf T (stateAt L k)) (stateAt L' 0))) (sym (suc-inj e)) move) in
@@ -63,13 +64,16 @@ module _ (T : Plant) (f : Formula) (b : Bool) (h : History) where
       )
 
 module _ (h : History) (e : Seen) (marked : h .mark < length (h .events)) where
+  -- one more event is one position later
   pub now-more : now (more h e) ≡ suc (now h)
   now-more = rw length-append (omega arith)
 
+  -- which is where the last one was, and one more
   pub now-last : length (h .events) ≡ suc (now h)
   now-last = omega arith
 
 module _ (T : Plant) (f : Formula) (b : Bool) (h : History) (e : Seen) (marked : h .mark < length (h .events)) where
+  -- one more event: from the old pairs to the live ones that they lead to, where the label agrees
   pub at-step : (s' v' : ℕ) → At T f b (more h e) s' v' ↔ (Live T f s' v' × Agrees e (labelOf T s') × Came T f b h s' v')
   at-step s' v' = (came, goes)
     where

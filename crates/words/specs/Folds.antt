@@ -3,13 +3,15 @@
 use Prim.Native.Nat.{ℕ, zero, suc, _+_, _*_, _≤_, _<_}
 use mathlib.Core.Path.{_≡_, refl, sym, ap, ap₂, _∙_}
 use mathlib.Core.Bool.{Bool, true, false, So, _&&_, _||_, false≢true}
-use mathlib.Core.Logic.{⊎-elim}
-use native.Mathlib.Nat.{add-comm, add-zero, suc-mul}
+use mathlib.Core.Logic.{⊎-elim, inl, inr}
+use native.Mathlib.Nat.{add-comm, add-zero, suc-mul, eq-or-lt-of-le}
 use native.Mathlib.Omega.{arith}
 use native.Mathlib.Numerals.{add-one}
+use Rattle.meaning.specs.Says.{Says}
 use Rattle.words.specs.Word.{digit}
 use Rattle.words.specs.Below.{anyBelow, allBelow, firstBelow, sumBelow, countBelow}
-use Rattle.words.specs.Truth.{below-cases, so-ext, and-both, both-and, or-cases, or-left, or-right}
+use Rattle.words.specs.Tests.{below-cases}
+use Rattle.words.specs.Truth.{not-so, and-says, or-says}
 
 -- ---- anyBelow
 
@@ -31,20 +33,29 @@ pub any-found : (n : ℕ) (P : ℕ → Bool) → So (anyBelow n P) → (k : ℕ)
 unfolding anyBelow
 any-found zero P h = absurd (false≢true h)
 any-found (suc n) P h =
-    ⊎-elim (λ a. let w = any-found n P a in (w .0, omega arith, w .2)) (λ b. (n, omega arith, b)) (or-cases (anyBelow n P) (P n) h)
+    ⊎-elim (λ a. let w = any-found n P a in (w .0, omega arith, w .2)) (λ b. (n, omega arith, b)) (or-says (anyBelow n P) (P n) .0 h)
 
+-- and one is enough
 pub any-of : (n : ℕ) (P : ℕ → Bool) (k : ℕ) → k < n → So (P k) → So (anyBelow n P)
 unfolding anyBelow
 any-of zero P k h p = absurd (omega arith)
 any-of (suc n) P k h p =
-    ⊎-elim (λ l. or-left (anyBelow n P) (P n) (any-of n P k l p))
-    (λ e. or-right (anyBelow n P) (P n) (rw (← e) p))
+    ⊎-elim (λ l. or-says (anyBelow n P) (P n) .1 (inl (any-of n P k l p)))
+    (λ e. or-says (anyBelow n P) (P n) .1 (inr (rw (← e) p)))
     (below-cases h)
 
-pub any-none : (n : ℕ) (P : ℕ → Bool) → anyBelow n P ≡ false → (k : ℕ) → k < n → P k ≡ false
-any-none n P e k h =
-    so-ext (P k) false (λ p. absurd (false≢true (sym e ∙ any-of n P k h p))) (λ f. absurd (false≢true f))
+-- whether it holds of one, where the test says whether it does
+pub any-says : (t : ℕ → Bool) (P : ℕ → Type 0) → ((k : ℕ) → Says (t k) (P k)) → (n : ℕ) → Says (anyBelow n t) ((k : ℕ) × (k < n) × P k)
+any-says t P says n = (
+  λ e. let (k, l, s) = any-found n t e in (k, l, says k .0 s),
+  λ (k, l, p). any-of n t k l (says k .1 p),
+)
 
+-- it holds of none
+pub any-none : (n : ℕ) (P : ℕ → Bool) → anyBelow n P ≡ false → (k : ℕ) → k < n → P k ≡ false
+any-none n P e k h = not-so (P k) (λ p. false≢true (sym e ∙ any-of n P k h p))
+
+-- of some it holds, or of some the other
 pub any-or : (n : ℕ) (P Q : ℕ → Bool) → anyBelow n (λ k. P k || Q k) ≡ (anyBelow n P || anyBelow n Q)
 unfolding anyBelow
 any-or zero P Q = refl
@@ -58,6 +69,7 @@ any-or (suc n) P Q =
     swap false false true q = refl
     swap false false false q = refl
 
+-- what does not depend on the number may stand before
 pub any-and : (n : ℕ) (b : Bool) (P : ℕ → Bool) → anyBelow n (λ k. b && P k) ≡ (b && anyBelow n P)
 unfolding anyBelow
 any-and zero true P = refl
@@ -76,17 +88,23 @@ unfolding allBelow
 all-same zero P Q e = refl
 all-same (suc n) P Q e = ap₂ (λ (p q : Bool). p && q) (all-same n P Q (λ k h. e k (omega arith))) (e n (omega arith))
 
+-- it holds of each
 pub all-at : (n : ℕ) (P : ℕ → Bool) → So (allBelow n P) → (k : ℕ) → k < n → So (P k)
 unfolding allBelow
 all-at zero P a k h = absurd (omega arith)
 all-at (suc n) P a k h =
-    let b = and-both (allBelow n P) (P n) a in
+    let b = and-says (allBelow n P) (P n) .0 a in
     ⊎-elim (λ l. all-at n P (b .0) k l) (λ e. rw e (b .1)) (below-cases h)
 
+-- and of each is enough
 pub all-of : (n : ℕ) (P : ℕ → Bool) → ((k : ℕ) → k < n → So (P k)) → So (allBelow n P)
 unfolding allBelow
 all-of zero P a = refl
-all-of (suc n) P a = both-and (allBelow n P) (P n) (all-of n P (λ k h. a k (omega arith))) (a n (omega arith))
+all-of (suc n) P a = and-says (allBelow n P) (P n) .1 (all-of n P (λ k h. a k (omega arith)), a n (omega arith))
+
+-- whether it holds of each, where the test says whether it does
+pub all-says : (t : ℕ → Bool) (P : ℕ → Type 0) → ((k : ℕ) → Says (t k) (P k)) → (n : ℕ) → Says (allBelow n t) ((k : ℕ) → k < n → P k)
+all-says t P says n = (λ e k l. says k .0 (all-at n t e k l), λ h. all-of n t (λ k l. says k .1 (h k l)))
 
 -- ---- firstBelow
 
@@ -100,6 +118,7 @@ first-none (suc n) P e = let b = or-none (anyBelow n P) (P n) e in rw (b .0, b .
     or-none true q h = absurd (false≢true (sym h))
     or-none false q h = (refl, h)
 
+-- and one that stops at k
 pub first-found : (n : ℕ) (P : ℕ → Bool) (k : ℕ) → k < n → anyBelow k P ≡ false → P k ≡ true → firstBelow n P ≡ k
 unfolding firstBelow
 first-found zero P k h e p = absurd (omega arith)
@@ -112,9 +131,11 @@ pub count-more : (n : ℕ) (P : ℕ → Bool) → countBelow (n + 1) P ≡ count
 unfolding countBelow
 count-more n P = rw add-one
 
+-- a turn that counts
 pub count-one : (n : ℕ) (P : ℕ → Bool) → P n ≡ true → countBelow (n + 1) P ≡ countBelow n P + 1
 count-one n P e = rw (count-more, e)
 
+-- and one that does not
 pub count-none : (n : ℕ) (P : ℕ → Bool) → P n ≡ false → countBelow (n + 1) P ≡ countBelow n P
 count-none n P e = rw (count-more, e) (add-zero (countBelow n P))
 
@@ -124,6 +145,7 @@ count-same zero P Q e = refl
 count-same (suc n) P Q e =
     ap₂ (λ (m : ℕ) (p : Bool). m + digit p) (count-same n P Q (λ k h. e k (omega arith))) (e n (omega arith))
 
+-- no more are counted than there are
 pub count-le : (n : ℕ) (P : ℕ → Bool) → countBelow n P ≤ n
 unfolding countBelow
 count-le zero P = omega arith
@@ -133,6 +155,15 @@ count-le (suc n) P = let h = count-le n P in let d = one (P n) in omega arith
     one true = omega arith
     one false = omega arith
 
+-- beyond a bound nothing is counted
+pub count-beyond : (P : ℕ → Bool) (n m : ℕ) → n ≤ m → ((k : ℕ) → n ≤ k → P k ≡ false) → countBelow m P ≡ countBelow n P
+unfolding countBelow
+count-beyond P n zero le h = let e : n ≡ 0 = omega arith in rw e
+count-beyond P n (suc m) le h = ⊎-elim
+    (λ (e : n ≡ suc m). rw e)
+    (λ l. rw (h m (omega arith)) (let k = count-beyond P n m (omega arith) h in omega arith))
+    (eq-or-lt-of-le le)
+
 -- the first number apart
 pub count-first : (n : ℕ) (P : ℕ → Bool) → countBelow (suc n) P ≡ digit (P 0) + countBelow n (λ k. P (suc k))
 unfolding countBelow
@@ -141,6 +172,7 @@ count-first (suc n) P = let h = count-first n P in omega arith
 
 -- ---- sumBelow
 
+-- greater terms, a greater sum
 pub sum-le : (n : ℕ) (f g : ℕ → ℕ) → ((k : ℕ) → k < n → f k ≤ g k) → sumBelow n f ≤ sumBelow n g
 unfolding sumBelow
 sum-le zero f g h = omega arith

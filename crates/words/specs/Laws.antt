@@ -63,16 +63,19 @@ bit-xor = bit-op bitXor (λ p q. not (Bool·beq p q)) xor-shr xor-mod single
 
 -- ---- the lowest digit, and the rest
 
+-- the lowest digit
 pub bit-low : (x : ℕ) → bit x 0 ≡ eqb (x % 2) 1
 unfolding bit
 bit-low x = rw div-one
 
+-- the others, one place down
 pub bit-half : (x k : ℕ) → bit (x / 2) k ≡ bit x (suc k)
 unfolding bit
 bit-half x k = rw (shr-shr x 1 k, one-add)
 
 -- ---- particular numbers
 
+-- the empty set
 pub bit-zero : (k : ℕ) → bit 0 k ≡ false
 unfolding bit
 bit-zero k = rw zero-div
@@ -106,6 +109,7 @@ bit-all (suc n) (suc k) =
 
 -- ---- cut to the numbers below n, and the others below n
 
+-- cut to the numbers below n
 pub bit-mod : (n x k : ℕ) → bit (x % 2 ^ n) k ≡ (bit x k && ltb k n)
 bit-mod n x k = rw (← and-mask x n, bit-and, bit-all)
 
@@ -116,6 +120,7 @@ all-xor n x h = omega (arith, xor-add-and (2 ^ n - 1) x, inside)
     inside : bitAnd (2 ^ n - 1) x ≡ x
     inside = and-comm (2 ^ n - 1) x ∙ and-mask x n ∙ mod-eq-of-lt h
 
+-- the others below n
 pub bit-not : (n : ℕ) {x : ℕ} → x < 2 ^ n → (k : ℕ) → bit (2 ^ n - 1 - x) k ≡ (ltb k n && not (bit x k))
 bit-not n {x} h k = ap (λ (y : ℕ). bit y k) (sym (all-xor n x h)) ∙ rw (bit-xor, bit-all) (table (ltb k n) (bit x k) cut)
   where
@@ -159,6 +164,7 @@ bit-shifted x k = ap (λ (d : ℕ). eqb d 1) (and-mask (x / 2 ^ k) 1)
 digit-inj : (p q : ℕ) → p < 2 → q < 2 → eqb p 1 ≡ eqb q 1 → p ≡ q
 digit-inj p q hp hq e = digit-of p hp ∙ ap digit e ∙ sym (digit-of q hq)
 
+-- of numbers below n
 pub bit-ext : (n x y : ℕ) → x < 2 ^ n → y < 2 ^ n → ((k : ℕ) → k < n → bit x k ≡ bit y k) → x ≡ y
 bit-ext zero x y hx hy e = omega arith
 bit-ext (suc n) x y hx hy e =
@@ -171,10 +177,12 @@ bit-ext (suc n) x y hx hy e =
     half : (z : ℕ) → z < 2 ^ suc n → z / 2 < 2 ^ n
     half z h = let e : 2 ^ suc n ≡ 2 ^ n * 2 = pow-suc 2 n in omega arith
 
+-- so n digits are enough for any number n
 pub below-pow : (n : ℕ) → n < 2 ^ n
 below-pow zero = omega arith
 below-pow (suc n) = let h = below-pow n in let e : 2 ^ suc n ≡ 2 ^ n * 2 = pow-suc 2 n in omega arith
 
+-- of any numbers
 pub same-bits : (x y : ℕ) → ((k : ℕ) → bit x k ≡ bit y k) → x ≡ y
 same-bits x y e =
     bit-ext (x + y) x y (lt-of-lt-of-le (below-pow x) (pow-mono (omega arith))) (lt-of-lt-of-le (below-pow y) (pow-mono (omega arith)))

@@ -1,7 +1,9 @@
+pub mod Truth
+pub mod Tests
 pub mod Word
 pub mod Below
-pub mod Truth
 pub mod Laws
+pub mod Within
 pub mod Folds
 pub mod Unions
 pub mod Lists
