@@ -1,11 +1,14 @@
 -- What a table handed in is refused for.
 use Prim.Native.Nat.{ℕ, _^_, _≤_, _<_}
 use mathlib.Core.Path.{_≡_}
-use mathlib.Core.List.{List, [], _∷_}
-use mathlib.Core.Bool.{Bool, true, false, _&&_}
+use mathlib.Core.List.{List}
+use mathlib.Core.Bool.{Bool, true, false, So, _&&_}
+use lib.Bits.{bitOr}
 use lib.Dec.{eqb, leb, ltb}
 use lib.ListN.{length, getD}
 use Rattle.meaning.specs.Bit.{bit}
+use Rattle.meaning.specs.Run as run
+use Rattle.words.specs.Below.{unionBelow}
 use Rattle.answers.specs.declared.Kind.{Kind}
 use Rattle.answers.specs.declared.Kind.the-variants.{Counts, Bits}
 use Rattle.answers.specs.declared.Outcome.{Outcome}
@@ -13,18 +16,27 @@ use Rattle.answers.specs.declared.Outcome.the-variants.{Accepted, Refused}
 use Rattle.answers.specs.Paper.{refusedAt}
 use Rattle.plant.specs.declared.Plant.{Plant}
 
--- each set has members below n alone
-unfoldable pub lower : ℕ → List ℕ → Bool
-lower n [] = true
-lower n (x ∷ l) = ltb x (2 ^ n) && lower n l
+-- the table that is handed in as its counts and its parts
+abbrev pub plantOf : Plant → List ℕ → List ℕ → List ℕ → run.Plant
+plantOf p fair label next = record { props = p .props; states = p .states; start = p .start; fair = fair; label = label; next = next }
 
+-- ---- the tests
+
+-- the counts are in range, and the parts have their lengths
 abbrev pub countsOf : Plant → ℕ → ℕ → ℕ → Bool
 countsOf p fair label next =
     (((leb 1 (p .props) && leb (p .props) 8) && (leb 1 (p .states) && leb (p .states) 64)) && (leb (p .just) 4 && eqb fair (p .just)))
     && (eqb label (p .states) && eqb next (p .states))
 
+-- the union of all sets of a list
+unfoldable pub united : List ℕ → ℕ
+united l = unionBelow (length l) (λ i. getD l i 0)
+
+-- all sets of states together are of numbers below `states`, all labels below `props`
 abbrev pub bitsOf : Plant → List ℕ → List ℕ → List ℕ → Bool
-bitsOf p fair label next = ((ltb (p .start) (2 ^ p .states) && lower (p .states) fair) && lower (p .props) label) && lower (p .states) next
+bitsOf p fair label next = ltb (bitOr (bitOr (p .start) (united fair)) (united next)) (2 ^ p .states) && ltb (united label) (2 ^ p .props)
+
+-- ---- the answer: 1 before 2
 
 abbrev pub pick : Bool → Outcome → Outcome → Outcome
 pick true a b = a
@@ -35,6 +47,8 @@ refusedAs k = Refused (refusedAt k 0)
 
 abbrev pub tableOutcome : Plant → List ℕ → List ℕ → List ℕ → Outcome
 tableOutcome p fair label next = pick (countsOf p (length fair) (length label) (length next)) (pick (bitsOf p fair label next) Accepted (refusedAs Bits)) (refusedAs Counts)
+
+-- ---- what 01 says
 
 -- the counts are in range
 pub record InRange (p : Plant) : Type 0 where
@@ -51,16 +65,15 @@ pub record Lengths (p : Plant) (fair label next : ℕ) : Type 0 where
   pub labels : label ≡ p .states
   pub nexts : next ≡ p .states
 
--- no bit of x names a number from n on
-abbrev pub Names : ℕ → ℕ → Type 0
-Names n x = (k : ℕ) → bit x k ≡ true → k < n
+-- a bit of the set x names a number that is not below n
+pub record Beyond (n x : ℕ) : Type 0 where
+  pub name : ℕ
+  pub beyond : n ≤ name
+  pub named : So (bit x name)
 
--- the same for each set of a list
-abbrev pub AllName : ℕ → List ℕ → Type 0
-AllName n l = (i : ℕ) → i < length l → Names n (getD l i 0)
-
-pub record Named (p : Plant) (fair label next : List ℕ) : Type 0 where
-  pub start : Names (p .states) (p .start)
-  pub fairs : AllName (p .states) fair
-  pub labels : AllName (p .props) label
-  pub nexts : AllName (p .states) next
+-- a bit names a state or a proposition beyond the counts: in the starting set, in a fairness set, in a label, in a set of next states
+pub data BitBeyond (p : Plant) (fair label next : List ℕ) : Type 0 where
+  in-start : Beyond (p .states) (p .start) → BitBeyond p fair label next
+  in-fair : (i : ℕ) → i < length fair → Beyond (p .states) (getD fair i 0) → BitBeyond p fair label next
+  in-label : (i : ℕ) → i < length label → Beyond (p .props) (getD label i 0) → BitBeyond p fair label next
+  in-next : (i : ℕ) → i < length next → Beyond (p .states) (getD next i 0) → BitBeyond p fair label next

@@ -1,11 +1,14 @@
-// A plant table handed in: the counts by value, its parts lent; and the check of both.
+// Plant tables: handed in as the counts by value with the parts lent, read from a text as one value; and the check of both.
+mod reader;
+
 use answers::Kind;
 use answers::Outcome;
 use answers::Refusal;
+pub use reader::read_table;
 ghost use mathlib.Core.Path.{_≡_};
 ghost use Prim.Native.Nat.{_^_, _≤_};
 ghost use lib.Dec.{ltb};
-ghost use Rattle.plant.specs.Table.{lower, countsOf, bitsOf, tableOutcome, InRange};
+ghost use Rattle.plant.specs.Table.{united, countsOf, bitsOf, tableOutcome, InRange};
 
 // State k has the weight 2^k in a set of states.
 pub struct Plant {
@@ -24,6 +27,34 @@ impl Plant {
     pub const JUST: usize = 4;
 }
 
+// A table that was read, zero beyond the counts: a caller lends `&fair[..just]`, `&label[..states]` and `&next[..states]`.
+pub struct Table {
+    pub plant: Plant,
+    pub fair: [u64; 4],
+    pub label: [u16; 64],
+    pub next: [u64; 64],
+}
+
+impl Table {
+    // The table that stands beside a refusal.
+    pub const EMPTY: Table = Table {
+        plant: Plant {
+            props: 0,
+            states: 0,
+            start: 0,
+            just: 0,
+        },
+        fair: [0; 4],
+        label: [0; 64],
+        next: [0; 64],
+    };
+}
+
+pub struct TableRead {
+    pub outcome: Outcome,
+    pub table: Table,
+}
+
 fn wide(x: u16) -> u64
     ensures { λ r. ⌜ r ≡ x ⌝ }
 {
@@ -38,34 +69,30 @@ fn is_below(set: u64, n: usize) -> bool
     set <= words::all(n)
 }
 
-fn sets_below(sets: &[u64], n: usize) -> bool
-    requires { ⌜ (1 ≤ n) × (n ≤ 64) ⌝ }
-    ensures { λ r. ⌜ r ≡ lower n (now (sets .entry)) ⌝ }
+// The union of all sets of states.
+fn united_sets(sets: &[u64]) -> u64
+    ensures { λ r. ⌜ r ≡ united (now (sets .entry)) ⌝ }
 {
+    let mut all = 0;
     let mut at = 0;
     while at < sets.len() {
-        if is_below(sets[at], n) {
-            at += 1;
-        } else {
-            return false;
-        }
+        all |= sets[at];
+        at += 1;
     }
-    true
+    all
 }
 
-fn labels_below(labels: &[u16], n: usize) -> bool
-    requires { ⌜ (1 ≤ n) × (n ≤ 64) ⌝ }
-    ensures { λ r. ⌜ r ≡ lower n (now (labels .entry)) ⌝ }
+// The union of all labels.
+fn united_labels(labels: &[u16]) -> u64
+    ensures { λ r. ⌜ r ≡ united (now (labels .entry)) ⌝ }
 {
+    let mut all = 0;
     let mut at = 0;
     while at < labels.len() {
-        if is_below(wide(labels[at]), n) {
-            at += 1;
-        } else {
-            return false;
-        }
+        all |= wide(labels[at]);
+        at += 1;
     }
-    true
+    all
 }
 
 // Whether the counts are in range, and the lent parts have their lengths.
@@ -79,18 +106,17 @@ fn counts_fit(plant: Plant, fair: usize, label: usize, next: usize) -> bool
     props & states & just & parts
 }
 
-// Whether each bit names a state or a proposition that there is.
+// Whether each bit names a state or a proposition that there is: one test of all sets united.
 fn bits_fit(plant: Plant, fair: &[u64], label: &[u16], next: &[u64]) -> bool
     requires { ⌜ InRange plant ⌝ }
     ensures { λ r. ⌜ r ≡ bitsOf plant (now (fair .entry)) (now (label .entry)) (now (next .entry)) ⌝ }
 {
-    let start = is_below(plant.start, plant.states);
-    let fairs = sets_below(fair, plant.states);
-    let labels = labels_below(label, plant.props);
-    let nexts = sets_below(next, plant.states);
-    start & fairs & labels & nexts
+    let states = plant.start | united_sets(fair) | united_sets(next);
+    let props = united_labels(label);
+    is_below(states, plant.states) & is_below(props, plant.props)
 }
 
+// The check of a table handed in: 1 before 2.
 pub fn check_table(plant: Plant, fair: &[u64], label: &[u16], next: &[u64]) -> Outcome
     ensures { λ r. ⌜ r ≡ tableOutcome plant (now (fair .entry)) (now (label .entry)) (now (next .entry)) ⌝ }
 {

@@ -1,12 +1,15 @@
--- `plant::bits_fit` meets its contract. Assumes nothing.
+-- `plant::bits_fit`. The two tests.
 use borrow.Author.Needs.{needs}
 use Rattle.plant.proofs.bits_fit.Statement.{statement}
 use Rattle.plant.proofs.bits_fit.Tie as tie
 
 returns : tie.Need-returns
-returns c = simp (c .before .before .before .is-below .ensures, c .before .before .sets-below .ensures, c .before .labels-below .ensures, c .sets-below2 .ensures)
+returns c =
+    let labels = c .before .before in
+    let nexts = labels .before in
+    simp (c .before .is-below .ensures, c .is-below2 .ensures, labels .united-labels .ensures, nexts .united-sets2 .ensures, nexts .before .before .united-sets .ensures)
 
 pub bits-fit-spec : {M : Type 1} → statement M
 bits-fit-spec =
     tie.close (tie.spec
-    (λ c κs. search needs) (λ c κs. search needs) (λ c κs. search needs) (λ c κs. search needs) returns)
+    (λ c κs. search needs) (λ c κs. search needs) (λ c κs. search needs) (λ c κs. search needs) (λ c κs. search needs) returns)

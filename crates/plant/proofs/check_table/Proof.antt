@@ -1,9 +1,9 @@
--- `plant::check_table` meets its contract. Assumes nothing.
+-- `plant::check_table`. Each return is a case of `tableOutcome`.
 use mathlib.Core.Path.{_≡_, sym, _∙_}
 use mathlib.Core.Bool.{Bool, true}
 use lib.ListN.{length}
 use Rattle.plant.specs.Table.{countsOf, bitsOf}
-use Rattle.plant.proofs.Sound.{counts-exactly}
+use Rattle.plant.specs.Check.{counts-exactly}
 use borrow.Author.Needs.{needs}
 use Rattle.plant.proofs.check_table.Statement.{statement}
 use Rattle.plant.proofs.check_table.Tie as tie

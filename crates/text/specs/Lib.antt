@@ -1,0 +1,16 @@
+pub mod Slot
+pub mod Matched
+pub mod Form
+pub mod Place
+pub mod Written
+pub mod Cases
+pub mod Number
+pub mod Hex
+pub mod Count
+pub mod After
+pub mod Read
+pub mod Took
+pub mod Many
+pub mod Below
+pub mod Small
+pub mod Promises

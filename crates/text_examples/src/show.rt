@@ -1,0 +1,147 @@
+// What the calls answer, in lines.
+use answers::Outcome;
+use libc::STDOUT_FILENO;
+use log::Event;
+use plant::Plant;
+
+pub fn put(bytes: &[u8]) {
+    io::write_all(STDOUT_FILENO, bytes);
+}
+
+pub fn heading(name: &[u8]) {
+    put(b"-- ");
+    put(name);
+    end();
+}
+
+pub fn digits(n: usize) {
+    io::print_decimal(STDOUT_FILENO, n as u64);
+}
+
+pub fn end() {
+    put(b"\n");
+}
+
+// A number behind its name.
+fn number(name: &[u8], n: usize) {
+    put(name);
+    digits(n);
+}
+
+fn set(x: u64) {
+    put(b" ");
+    io::print_hex(STDOUT_FILENO, x, 1);
+}
+
+// `ok`, or the refusal's number and place.
+pub fn tell(outcome: Outcome) {
+    match outcome {
+        Outcome::Accepted => put(b" ok"),
+        Outcome::Refused(refusal) => {
+            let kind = refusal.kind;
+            number(b" ", kind.number() as usize);
+            number(b"@", refusal.place);
+        }
+    }
+}
+
+fn sets(name: &[u8], list: &[u64]) {
+    put(name);
+    let mut k = 0;
+    while k < list.len() {
+        set(list[k]);
+        k += 1;
+    }
+    end();
+}
+
+fn labels(list: &[u16]) {
+    put(b"label");
+    let mut k = 0;
+    while k < list.len() {
+        set(wide(list[k]));
+        k += 1;
+    }
+    end();
+}
+
+fn wide(x: u16) -> u64 {
+    x as u64
+}
+
+fn counts(plant: Plant) {
+    number(b"props=", plant.props);
+    number(b" states=", plant.states);
+    number(b" just=", plant.just);
+    put(b" start");
+    set(plant.start);
+}
+
+// The outcome of a table's text, and the whole table that stands beside it.
+pub fn table(text: &[u8]) {
+    let read = plant::read_table(text);
+    let outcome = read.outcome;
+    let table = read.table;
+    let plant = table.plant;
+    tell(outcome);
+    end();
+    counts(plant);
+    end();
+    sets(b"j", &table.fair);
+    labels(&table.label);
+    sets(b"next", &table.next);
+}
+
+fn event(text: &[u8], line: usize) {
+    let event = log::event_at(text, line);
+    number(b" ", event.see as usize);
+    number(b"/", event.val as usize);
+    if event.new {
+        put(b"/new");
+    }
+}
+
+// The outcome of a log's text, its number of lines, and the events of its first four lines.
+pub fn log(text: &[u8]) {
+    let read = log::read_log(text);
+    let outcome = read.outcome;
+    tell(outcome);
+    number(b" lines=", read.lines);
+    event(text, 0);
+    event(text, 1);
+    event(text, 2);
+    event(text, 3);
+    end();
+}
+
+// The outcome for counts handed in, beside the parts of a table of one state with four fairness sets.
+pub fn handed(props: usize, states: usize, start: u64, just: usize) {
+    let plant = Plant {
+        props,
+        states,
+        start,
+        just,
+    };
+    let fair = [1u64; 4];
+    let label = [1u16; 1];
+    let next = [1u64; 1];
+    counts(plant);
+    tell(plant::check_table(plant, &fair, &label, &next));
+    end();
+}
+
+pub fn legal(see: u16, val: u16, props: usize) {
+    digits(see as usize);
+    number(b" ", val as usize);
+    number(b" ", props);
+    let event = Event {
+        see,
+        val,
+        new: false,
+    };
+    if log::is_legal(event, props) {
+        put(b" legal\n");
+    } else {
+        put(b" not legal\n");
+    }
+}
