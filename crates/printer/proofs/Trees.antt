@@ -1,0 +1,144 @@
+-- What is told of a rule's last node, by how many operands it has.
+use Prim.Native.Nat.{ℕ, zero, suc, _+_, _-_, _≤_, _<_}
+use mathlib.Core.Path.{_≡_, refl, ap}
+use mathlib.Core.List.{List, [], _∷_, _++_}
+use native.Mathlib.Omega.{arith}
+use native.Mathlib.Numerals.{sub-one}
+use borrow.Author.Tests.{eq-eqb, ne-eqb}
+use lib.ListN.{length, getD}
+use Rattle.syntax.specs.declared.Op.{Op}
+use Rattle.syntax.specs.declared.Node.{Node}
+use Rattle.syntax.specs.Postfix.{sides}
+use Rattle.syntax.specs.Print.{inside}
+use Rattle.syntax.specs.Value.{blank}
+use Rattle.printer.specs.Tell.{width, word, back, Line, tell, Wrote, Wording, parens, share, shares, Room, Told}
+use Rattle.printer.specs.declared.Spot.{Spot}
+use Rattle.printer.proofs.Writes.{wrote-none, wrote-to, wrote-before, wrote-length}
+
+-- the node before k
+abbrev pub nodeAt : List Node → ℕ → Op
+nodeAt ns i = getD ns i blank .op
+
+pub back-one : (ns : List Node) (k : ℕ) → (k ≡ 0 → ⊥) → back ns k ≡ nodeAt ns (k - 1) ∷ back ns (k - 1)
+unfolding back
+back-one ns zero h = absurd (h refl)
+back-one ns (suc k) h = rw (sub-one (suc k))
+
+module _ (o : Op) (os : List Op) (n : ℕ) where
+  pub tell-leaf : sides o ≡ 0 → tell (suc n) (o ∷ os) ≡ record { text = word o; rest = os }
+  unfolding tell
+  tell-leaf e = simp (eq-eqb (sides o) 0 e)
+
+  pub tell-one : sides o ≡ 1 → tell (suc n) (o ∷ os) ≡ record { text = word o ++ tell n os .text; rest = tell n os .rest }
+  unfolding tell
+  tell-one e = simp (ne-eqb (sides o) 0 (λ q. omega arith), eq-eqb (sides o) 1 e)
+
+  pub tell-two : (sides o ≡ 0 → ⊥) → (sides o ≡ 1 → ⊥) → tell (suc n) (o ∷ os)
+      ≡ record { text = inside (tell n (tell n os .rest) .text) (word o) (tell n os .text); rest = tell n (tell n os .rest) .rest }
+  unfolding tell
+  tell-two e f = simp (ne-eqb (sides o) 0 e, ne-eqb (sides o) 1 f)
+
+-- the parentheses of each sign of node
+pub few : (k : ℕ) → k ≤ 1 → parens k ≡ 0
+few zero h = refl
+few (suc zero) h = refl
+few (suc (suc k)) h = absurd (omega arith)
+
+pub many : (k : ℕ) → (k ≡ 0 → ⊥) → (k ≡ 1 → ⊥) → parens k ≡ 2
+many zero e f = absurd (e refl)
+many (suc zero) e f = absurd (f refl)
+many (suc (suc k)) e f = refl
+
+-- a line is told, and the nodes before j are left
+abbrev Lined : List Node → ℕ → List ℕ → ℕ → ℕ → List ℕ → Line → Type 0
+Lined ns j a lo hi b l = (l .rest ≡ back ns j) × Wrote a lo hi (l .text) b
+
+module _ (ns : List Node) (k hi : ℕ) (a : List ℕ) where
+  pub told-none : k ≡ 0 → hi ≤ length a → Told ns k hi a (record { node = k; at = hi }) a
+  unfolding back tell
+  told-none e h = rw e (record { down = omega arith; paid = refl; told = go })
+    where
+      go : (n : ℕ) → 0 < n → Lined ns 0 a hi hi a (tell n [])
+      go zero lt = absurd (omega arith)
+      go (suc n) lt = (refl, wrote-none a hi h)
+
+  module _ (o : Op) (i : ℕ) (small : i < k) (is : back ns k ≡ o ∷ back ns i) where
+    shared : shares (back ns k) ≡ share o + shares (back ns i)
+    unfolding shares
+    shared = ap shares is
+
+    pub told-leaf : sides o ≡ 0 → {r : ℕ} {b : List ℕ} → Wording a hi o r b → Told ns k hi a (record { node = i; at = r }) b
+    told-leaf e {r} {b} w = record { down = omega arith; paid = omega (arith, shared, few (sides o) (omega arith), w .begins); told = go }
+      where
+        go : (n : ℕ) → k < n → Lined ns i a r hi b (tell n (back ns k))
+        go zero lt = absurd (omega arith)
+        go (suc n) lt = rw (is, tell-leaf o (back ns i) n e) (refl, w .wrote)
+
+    pub told-one : sides o ≡ 1 → {s : Spot} {r : ℕ} {b c : List ℕ} → Told ns i hi a s b → Wording b (s .at) o r c → Told ns k hi a (record { node = s .node; at = r }) c
+    told-one e {s} {r} {b} {c} x w =
+        record { down = omega (arith, x .down); paid = omega (arith, shared, few (sides o) (omega arith), x .paid, w .begins); told = go }
+      where
+        go : (n : ℕ) → k < n → Lined ns (s .node) a r hi c (tell n (back ns k))
+        go zero lt = absurd (omega arith)
+        go (suc n) lt = let y = x .told n (omega arith) in rw (is, tell-one o (back ns i) n e) (y .0, wrote-before (y .1) (w .wrote))
+
+    pub told-two : (sides o ≡ 0 → ⊥) → (sides o ≡ 1 → ⊥) → {close m lead : ℕ} {s q : Spot} {b c d e f : List ℕ} → Wrote a close (close + 1) (41 ∷ []) b → close + 1 ≡ hi
+        → Told ns i close b s c → Wording c (s .at) o m d → Told ns (s .node) m d q e → Wrote e lead (lead + 1) (40 ∷ []) f → lead + 1 ≡ q .at
+        → Told ns k hi a (record { node = q .node; at = lead }) f
+    told-two z u {close} {m} {lead} {s} {q} {b} {c} {d} {e} {f} wc ec x w y wo eo =
+        record { down = omega (arith, x .down, y .down); paid = omega (arith, shared, many (sides o) z u, x .paid, w .begins, y .paid); told = go }
+      where
+        go : (n : ℕ) → k < n → Lined ns (q .node) a lead hi f (tell n (back ns k))
+        go zero lt = absurd (omega arith)
+        go (suc n) lt =
+            let p = x .told n (omega arith) in
+            let r = y .told n (omega (arith, x .down)) in
+            rw (is, tell-two o (back ns i) n z u, p .0)
+            (r .0, wrote-before (wrote-before (wrote-before (wrote-before (wrote-to ec wc) (p .1)) (w .wrote)) (r .1)) (wrote-to eo wo))
+
+-- what is told fits
+pub told-fits : {ns : List Node} {k hi : ℕ} {a : List ℕ} {r : Spot} {b : List ℕ} → Told ns k hi a r b → (r .at ≤ hi) × (hi ≤ length a) × (length b ≡ length a)
+told-fits {k = k} x = let w = x .told (suc k) (omega arith) .1 in (omega (arith, w .span), w .fits, wrote-length w)
+
+-- the room for each part of a rule, where the node before k is the last one
+module _ (ns : List Node) (k hi : ℕ) (a : List ℕ) (room : Room ns k hi (length a)) (some : k ≡ 0 → ⊥) where
+  budget : width (nodeAt ns (k - 1)) + parens (sides (nodeAt ns (k - 1))) + shares (back ns (k - 1)) ≤ hi
+  unfolding shares
+  budget = omega (arith, room .room, ap shares (back-one ns k some))
+
+  pub room-leaf : (width (nodeAt ns (k - 1)) ≤ hi) × (hi ≤ length a)
+  room-leaf = (omega (arith, budget), room .fits)
+
+  pub room-inner : Room ns (k - 1) hi (length a)
+  room-inner = record { nodes = omega (arith, room .nodes); room = omega (arith, budget); fits = room .fits }
+
+  pub room-word : {s : Spot} {b : List ℕ} → Told ns (k - 1) hi a s b → (width (nodeAt ns (k - 1)) ≤ s .at) × (s .at ≤ length b)
+  room-word x = let f = told-fits x in (omega (arith, budget, x .paid), omega arith)
+
+  module _ (two : parens (sides (nodeAt ns (k - 1))) ≡ 2) where
+    pub room-close : (1 ≤ hi) × (hi - 1 < length a)
+    room-close = (omega (arith, budget), omega (arith, budget, room .fits))
+
+    module _ {b : List ℕ} (wb : Wrote a (hi - 1) (hi - 1 + 1) (41 ∷ []) b) where
+      pub room-right : Room ns (k - 1) (hi - 1) (length b)
+      room-right = record { nodes = omega (arith, room .nodes); room = omega (arith, budget); fits = omega (arith, room .fits, wrote-length wb) }
+
+      module _ {s : Spot} {c : List ℕ} (x : Told ns (k - 1) (hi - 1) b s c) where
+        pub room-sign : (width (nodeAt ns (k - 1)) ≤ s .at) × (s .at ≤ length c)
+        room-sign = let f = told-fits x in (omega (arith, budget, x .paid), omega arith)
+
+        module _ {m : ℕ} {d : List ℕ} (w : Wording c (s .at) (nodeAt ns (k - 1)) m d) where
+          pub room-left : Room ns (s .node) m (length d)
+          room-left =
+              let f = told-fits x in
+              record {
+                nodes = omega (arith, room .nodes, x .down);
+                room = omega (arith, budget, x .paid, w .begins);
+                fits = omega (arith, w .begins, wrote-length (w .wrote));
+              }
+
+          pub room-lead : {q : Spot} {e : List ℕ} → Told ns (s .node) m d q e → (1 ≤ q .at) × (q .at - 1 < length e)
+          room-lead {q} y =
+              let f = told-fits y in
+              let one : 1 ≤ q .at = omega (arith, budget, x .paid, w .begins, y .paid) in
+              (one, omega arith)

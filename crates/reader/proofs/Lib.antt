@@ -1,0 +1,3 @@
+pub mod Tokens
+mod Levels
+pub mod Written

@@ -1,0 +1,27 @@
+-- `rule::text::read_good` meets its contract. Assumes nothing.
+use mathlib.Core.Path.{_≡_, sym, ap, _∙_}
+use Rattle.rule.specs.declared.Found.the-variants.{At, Nowhere}
+use Rattle.rule.specs.Reading.{unknownAt, limited}
+use Rattle.rule.proofs.Checks.{named-unknown, named-fine}
+use borrow.Author.Needs.{needs}
+use Rattle.rule.proofs.text.read_good.Statement.{statement}
+use Rattle.rule.proofs.text.read_good.Tie as tie
+
+returns : tie.Need-returns
+returns c =
+    let start = c .before .before .before .before .before .before in
+    let k = c .before .before .found .given .0 .0 in
+    let e : unknownAt (start .args .props) 0 (start .args .text .now) ≡ At k = cc in
+    c .refused .ensures ∙ sym (named-unknown (start .args .text .now) (start .args .props) k e)
+
+returns-2 : tie.Need-returns-2
+returns-2 c =
+    let start = c .before .before .before .before .before .before in
+    let e : unknownAt (start .args .props) 0 (start .args .text .now) ≡ Nowhere = cc in
+    c .within-limits .ensures ∙ ap limited (c .before .parse-rule .ensures) ∙ sym (named-fine (start .args .text .now) (start .args .props) e)
+
+pub read-good-spec : {M : Type 1} → statement M
+read-good-spec =
+    tie.close (tie.spec
+    (λ c κs. search needs) (λ c. search needs) (λ c κs. search needs) (λ c. search needs) (λ c κs. search needs) (λ c κs. search needs) returns
+    returns-2)

@@ -1,0 +1,4 @@
+pub mod Reading
+pub mod Valid
+pub mod Printing
+pub mod Paper

@@ -1,0 +1,52 @@
+-- 01's words on a rule's text: what each answer of read_rule is given for.
+use Prim.Native.Nat.{ℕ, _≤_, _<_}
+use mathlib.Core.Path.{_≡_}
+use mathlib.Core.List.{List}
+use lib.ListN.{length}
+use Rattle.answers.specs.declared.Kind.{Kind}
+use Rattle.answers.specs.declared.Kind.the-variants.{Counts, Bits, TableText, RuleLength, RuleText, Proposition, Nodes, Parts, Value, Event, Room, LogText, NoPair, File}
+use Rattle.meaning.specs.Formula.{Formula, size, parts}
+use Rattle.meaning.specs.Limits.{AcceptedTable}
+use Rattle.plant.specs.declared.Plant.{Plant}
+use Rattle.plant.specs.Table.{plantOf, Lengths, BitBeyond}
+use Rattle.syntax.specs.declared.Rule.{Rule}
+use Rattle.syntax.specs.Grammar.{Says, Refused, Unknown}
+use Rattle.syntax.specs.Print.{Below}
+use Rattle.syntax.specs.Value.{ruleOf}
+
+-- the table beside the text is in order: neither 1 nor 2
+pub record Beside (p : Plant) (fair label next : List ℕ) : Type 0 where
+  pub fairs : length fair ≡ p .just
+  pub table : AcceptedTable (plantOf p fair label next)
+
+-- and s is at most 512 bytes long, and of the grammar, and says f: neither 4 nor 5
+pub record Reads (p : Plant) (fair label next s : List ℕ) (f : Formula) : Type 0 where
+  pub beside : Beside p fair label next
+  pub short : length s ≤ 512
+  pub says : Says f s
+
+-- s is accepted, and gives r: the value of the rule that it says, which is within the limits
+pub record Takes (p : Plant) (fair label next s : List ℕ) (r : Rule) : Type 0 where
+  pub formula : Formula
+  pub reads : Reads p fair label next s formula
+  pub below : Below (p .props) formula
+  pub small : size formula ≤ 32
+  pub few : parts formula ≤ 6
+  pub is : r ≡ ruleOf formula
+
+-- 01's table: what each refusal is given for, and at which place k, where no row before it applies
+abbrev pub Because : Plant → List ℕ → List ℕ → List ℕ → List ℕ → Kind → ℕ → Type 0
+Because p fair label next s Counts k = (Lengths p (length fair) (length label) (length next) → ⊥) × (k ≡ 0)
+Because p fair label next s Bits k = Lengths p (length fair) (length label) (length next) × BitBeyond p fair label next × (k ≡ 0)
+Because p fair label next s RuleLength k = Beside p fair label next × (512 < length s) × (k ≡ 512)
+Because p fair label next s RuleText k = Beside p fair label next × (length s ≤ 512) × Refused s k
+Because p fair label next s Proposition k = (f : Formula) × Reads p fair label next s f × Unknown (p .props) s k
+Because p fair label next s Nodes k = (f : Formula) × Reads p fair label next s f × Below (p .props) f × (32 < size f) × (k ≡ 0)
+Because p fair label next s Parts k = (f : Formula) × Reads p fair label next s f × Below (p .props) f × (size f ≤ 32) × (6 < parts f) × (k ≡ 0)
+Because p fair label next s TableText k = ⊥
+Because p fair label next s Value k = ⊥
+Because p fair label next s Event k = ⊥
+Because p fair label next s Room k = ⊥
+Because p fair label next s LogText k = ⊥
+Because p fair label next s NoPair k = ⊥
+Because p fair label next s File k = ⊥

@@ -1,0 +1,58 @@
+-- Check 9: which values are those of rules within the limits.
+use Prim.Native.Nat.{ℕ, _≤_}
+use mathlib.Core.Path.{_≡_}
+use mathlib.Core.List.{List, [], _∷_}
+use mathlib.Core.Bool.{Bool, true, false, _&&_}
+use lib.Dec.{ltb, leb}
+use Rattle.meaning.specs.Formula.{Formula, size, parts}
+use Rattle.syntax.specs.declared.Op.{Op}
+use Rattle.syntax.specs.declared.Op.the-variants.{False, True, Prop, Not, Next, Finally, Globally, Until, Release, And, Or, Implies}
+use Rattle.syntax.specs.declared.Rule.{Rule}
+use Rattle.syntax.specs.Postfix.{whole}
+use Rattle.syntax.specs.Print.{Below}
+use Rattle.syntax.specs.Value.{held, beyond, count, ruleOf}
+
+abbrev pub isFalse : Op → Bool
+isFalse False = true
+isFalse True = false
+isFalse (Prop k) = false
+isFalse Not = false
+isFalse Next = false
+isFalse Finally = false
+isFalse Globally = false
+isFalse Until = false
+isFalse Release = false
+isFalse And = false
+isFalse Or = false
+isFalse Implies = false
+
+-- no proposition from q on
+abbrev pub known : ℕ → Op → Bool
+known q False = true
+known q True = true
+known q (Prop k) = ltb k q
+known q Not = true
+known q Next = true
+known q Finally = true
+known q Globally = true
+known q Until = true
+known q Release = true
+known q And = true
+known q Or = true
+known q Implies = true
+
+unfoldable pub every : (Op → Bool) → List Op → Bool
+every p [] = true
+every p (o ∷ os) = p o && every p os
+
+-- r is the value of a rule within the limits, with propositions below q
+pub record RuleValue (r : Rule) (q : ℕ) : Type 0 where
+  pub formula : Formula
+  pub is : r ≡ ruleOf formula
+  pub small : size formula ≤ 32
+  pub few : parts formula ≤ 6
+  pub below : Below q formula
+
+-- the same, tested
+abbrev pub validOf : Rule → ℕ → Bool
+validOf r q = (((leb (r .len) 32 && whole (held r) 0) && every (known q) (held r)) && leb (count (held r)) 6) && every isFalse (beyond r)

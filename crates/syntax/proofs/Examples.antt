@@ -1,0 +1,87 @@
+-- The worked examples of 01, computed.
+use mathlib.Core.Path.{_≡_, refl}
+use mathlib.Core.List.{[], _∷_}
+use Rattle.meaning.specs.Formula.{prop, neg, until, and}
+use Rattle.syntax.specs.declared.Scan.the-variants.{Good, Bad}
+use Rattle.syntax.specs.Bytes.{signOf, leafOf, lexSign, lex}
+use Rattle.syntax.specs.Postfix.{postfix}
+use Rattle.syntax.specs.Print.{print}
+use Rattle.syntax.specs.Reader.{head, tail, pick, read, more, parse}
+use Rattle.syntax.specs.Scan.{closes, scanFrom, scan}
+
+-- ``
+scan-1 : scan ([]) ≡ Bad 0
+unfolding scan scanFrom signOf closes
+scan-1 = refl
+
+-- `p0 p1`
+scan-2 : scan (112 ∷ 48 ∷ 32 ∷ 112 ∷ 49 ∷ []) ≡ Bad 3
+unfolding scan scanFrom signOf closes
+scan-2 = refl
+
+-- `p8`
+scan-3 : scan (112 ∷ 56 ∷ []) ≡ Bad 1
+unfolding scan scanFrom signOf closes
+scan-3 = refl
+
+-- `p0-`
+scan-4 : scan (112 ∷ 48 ∷ 45 ∷ []) ≡ Bad 3
+unfolding scan scanFrom signOf closes
+scan-4 = refl
+
+-- `((p0)`
+scan-5 : scan (40 ∷ 40 ∷ 112 ∷ 48 ∷ 41 ∷ []) ≡ Bad 5
+unfolding scan scanFrom signOf closes
+scan-5 = refl
+
+-- `G(p0->Fp1)`
+scan-6 : scan (71 ∷ 40 ∷ 112 ∷ 48 ∷ 45 ∷ 62 ∷ 70 ∷ 112 ∷ 49 ∷ 41 ∷ []) ≡ Good
+unfolding scan scanFrom signOf closes
+scan-6 = refl
+
+-- ` ( p0 ) `
+scan-7 : scan (32 ∷ 40 ∷ 32 ∷ 112 ∷ 48 ∷ 32 ∷ 41 ∷ 32 ∷ []) ≡ Good
+unfolding scan scanFrom signOf closes
+scan-7 = refl
+
+-- `p0 ->p1`
+scan-8 : scan (112 ∷ 48 ∷ 32 ∷ 45 ∷ 62 ∷ 112 ∷ 49 ∷ []) ≡ Good
+unfolding scan scanFrom signOf closes
+scan-8 = refl
+
+-- `p0- >p1`
+scan-9 : scan (112 ∷ 48 ∷ 45 ∷ 32 ∷ 62 ∷ 112 ∷ 49 ∷ []) ≡ Bad 3
+unfolding scan scanFrom signOf closes
+scan-9 = refl
+
+-- `p0)`
+scan-10 : scan (112 ∷ 48 ∷ 41 ∷ []) ≡ Bad 2
+unfolding scan scanFrom signOf closes
+scan-10 = refl
+
+-- `p0Up1Up0` prints `(p0U(p1Up0))`
+parse-1 : parse (112 ∷ 48 ∷ 85 ∷ 112 ∷ 49 ∷ 85 ∷ 112 ∷ 48 ∷ []) ≡ postfix (until (prop 0) (until (prop 1) (prop 0)))
+unfolding parse read more lex lexSign signOf leafOf head tail pick postfix
+parse-1 = refl
+
+print-1 : print (until (prop 0) (until (prop 1) (prop 0))) ≡ 40 ∷ 112 ∷ 48 ∷ 85 ∷ 40 ∷ 112 ∷ 49 ∷ 85 ∷ 112 ∷ 48 ∷ 41 ∷ 41 ∷ []
+unfolding print
+print-1 = refl
+
+-- `!p0Up1` prints `(!p0Up1)`
+parse-2 : parse (33 ∷ 112 ∷ 48 ∷ 85 ∷ 112 ∷ 49 ∷ []) ≡ postfix (until (neg (prop 0)) (prop 1))
+unfolding parse read more lex lexSign signOf leafOf head tail pick postfix
+parse-2 = refl
+
+print-2 : print (until (neg (prop 0)) (prop 1)) ≡ 40 ∷ 33 ∷ 112 ∷ 48 ∷ 85 ∷ 112 ∷ 49 ∷ 41 ∷ []
+unfolding print
+print-2 = refl
+
+-- `p0&p1&p0` prints `((p0&p1)&p0)`
+parse-3 : parse (112 ∷ 48 ∷ 38 ∷ 112 ∷ 49 ∷ 38 ∷ 112 ∷ 48 ∷ []) ≡ postfix (and (and (prop 0) (prop 1)) (prop 0))
+unfolding parse read more lex lexSign signOf leafOf head tail pick postfix
+parse-3 = refl
+
+print-3 : print (and (and (prop 0) (prop 1)) (prop 0)) ≡ 40 ∷ 40 ∷ 112 ∷ 48 ∷ 38 ∷ 112 ∷ 49 ∷ 41 ∷ 38 ∷ 112 ∷ 48 ∷ 41 ∷ []
+unfolding print
+print-3 = refl

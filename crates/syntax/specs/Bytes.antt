@@ -1,0 +1,89 @@
+-- What each byte may be, and the tokens of a text. `lex` is lenient: what stands in no text it skips.
+use Prim.Native.Nat.{ℕ, zero, suc, _-_}
+use mathlib.Core.List.{List, [], _∷_}
+use mathlib.Core.Bool.{Bool, true, false, _&&_}
+use lib.Dec.{eqb, leb}
+use lib.ListN.{drop}
+use Rattle.syntax.specs.declared.Op.{Op}
+use Rattle.syntax.specs.declared.Op.the-variants.{False, True, Prop, Not, Next, Finally, Globally, Until, Release, And, Or, Implies}
+use Rattle.syntax.specs.declared.Token.{Token}
+use Rattle.syntax.specs.declared.Token.the-variants.{Leaf, Prefix, Infix, Open, Close}
+use Rattle.syntax.specs.declared.Sign.{Sign}
+use Rattle.syntax.specs.declared.Sign.the-variants.{Blank, Digit, Letter, Before, Between, Dash, Angle, Left, Right, Other}
+
+abbrev pub if : Bool → Sign → Sign → Sign
+if true a b = a
+if false a b = b
+
+unfoldable pub signOf : ℕ → Sign
+signOf b =
+    if (leb 48 b && leb b 55) (Digit (b - 48))
+    (if (eqb b 32) Blank
+    (if (eqb b 33) (Before Not)
+    (if (eqb b 38) (Between And)
+    (if (eqb b 40) Left
+    (if (eqb b 41) Right
+    (if (eqb b 45) Dash
+    (if (eqb b 62) Angle
+    (if (eqb b 70) (Before Finally)
+    (if (eqb b 71) (Before Globally)
+    (if (eqb b 82) (Between Release)
+    (if (eqb b 85) (Between Until)
+    (if (eqb b 88) (Before Next)
+    (if (eqb b 112) Letter
+    (if (eqb b 124) (Between Or) Other))))))))))))))
+
+-- the leaf of a digit that stands alone
+unfoldable pub leafOf : ℕ → Op
+leafOf zero = False
+leafOf (suc k) = True
+
+-- the number of a digit after `p`
+abbrev pub digitOf : Sign → ℕ
+digitOf (Digit k) = k
+digitOf Blank = 0
+digitOf Letter = 0
+digitOf (Before o) = 0
+digitOf (Between o) = 0
+digitOf Dash = 0
+digitOf Angle = 0
+digitOf Left = 0
+digitOf Right = 0
+digitOf Other = 0
+
+-- whether no token begins with a byte of the sign
+abbrev pub gap : Sign → Bool
+gap Blank = true
+gap Angle = true
+gap Other = true
+gap (Digit k) = false
+gap Letter = false
+gap (Before o) = false
+gap (Between o) = false
+gap Dash = false
+gap Left = false
+gap Right = false
+
+-- the tokens of a text, from a byte of the sign on: those of the rest, or those of the rest after a `p`
+unfoldable pub lexSign : Sign → List Token → List Token → List Token
+lexSign Blank ts after = ts
+lexSign (Digit k) ts after = Leaf (leafOf k) ∷ ts
+lexSign Letter ts after = after
+lexSign (Before o) ts after = Prefix o ∷ ts
+lexSign (Between o) ts after = Infix o ∷ ts
+lexSign Dash ts after = Infix Implies ∷ ts
+lexSign Angle ts after = ts
+lexSign Left ts after = Open ∷ ts
+lexSign Right ts after = Close ∷ ts
+lexSign Other ts after = ts
+
+-- the tokens of a text; if the flag is set, of one that follows a `p`
+unfoldable pub lex : Bool → List ℕ → List Token
+lex false [] = []
+lex true [] = Leaf (Prop 0) ∷ []
+lex false (b ∷ s) = lexSign (signOf b) (lex false s) (lex true s)
+lex true (b ∷ s) = Leaf (Prop (digitOf (signOf b))) ∷ lex false s
+
+-- the tokens from a place on
+abbrev pub tokens : List ℕ → ℕ → List Token
+tokens s at = lex false (drop at s)

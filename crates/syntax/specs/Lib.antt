@@ -1,0 +1,7 @@
+pub mod Grammar
+pub mod Postfix
+pub mod Value
+pub mod Print
+pub mod Bytes
+pub mod Reader
+pub mod Scan

@@ -1,0 +1,66 @@
+-- Rules as values: the nodes in postfix order, and then False.
+use Prim.Native.Nat.{ℕ, _+_, _-_}
+use mathlib.Core.List.{List, [], _∷_, _++_}
+use mathlib.Core.Bool.{Bool, true, false}
+use lib.Dec.{ltb}
+use lib.ListN.{take, drop, replicate}
+use Rattle.meaning.specs.Formula.{Formula, size}
+use Rattle.syntax.specs.declared.Op.{Op}
+use Rattle.syntax.specs.declared.Op.the-variants.{False, True, Prop, Not, Next, Finally, Globally, Until, Release, And, Or, Implies}
+use Rattle.syntax.specs.declared.Node.{Node}
+use Rattle.syntax.specs.declared.Rule.{Rule}
+use Rattle.syntax.specs.Postfix.{postfix}
+
+-- what stands where no node does
+abbrev pub blank : Node
+blank = record { op = False }
+
+abbrev pub emptyRule : Rule
+emptyRule = record { len = 0; nodes = replicate 32 blank }
+
+unfoldable pub nodesOf : List Op → List Node
+nodesOf [] = []
+nodesOf (o ∷ os) = record { op = o } ∷ nodesOf os
+
+unfoldable pub opsOf : List Node → List Op
+opsOf [] = []
+opsOf (n ∷ ns) = n .op ∷ opsOf ns
+
+-- the value of a rule that has 32 nodes at most
+abbrev pub ruleOf : Formula → Rule
+ruleOf f = record { len = size f; nodes = nodesOf (postfix f) ++ replicate (32 - size f) blank }
+
+abbrev pub choose : {A : Type 0} → Bool → A → A → A
+choose true a b = a
+choose false a b = b
+
+-- how many nodes of a value stand in its array
+abbrev pub stored : Rule → ℕ
+stored r = choose (ltb 32 (r .len)) 32 (r .len)
+
+-- the nodes of a value, and those beyond its length
+abbrev pub held : Rule → List Op
+held r = opsOf (take (r .len) (r .nodes))
+
+abbrev pub beyond : Rule → List Op
+beyond r = opsOf (drop (r .len) (r .nodes))
+
+-- 1 for a temporal operator
+abbrev pub temporal : Op → ℕ
+temporal False = 0
+temporal True = 0
+temporal (Prop k) = 0
+temporal Not = 0
+temporal Next = 1
+temporal Finally = 1
+temporal Globally = 1
+temporal Until = 1
+temporal Release = 1
+temporal And = 0
+temporal Or = 0
+temporal Implies = 0
+
+-- how many temporal operators there are among nodes
+unfoldable pub count : List Op → ℕ
+count [] = 0
+count (o ∷ os) = temporal o + count os
