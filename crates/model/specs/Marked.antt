@@ -36,11 +36,12 @@ see s v = record { seen = record { see = s; val = v }; new = false }
 abbrev new : ℕ → ℕ → Event
 new s v = record { seen = record { see = s; val = v }; new = true }
 
-record Row : Type 0 where
-  on : Plant
-  rule : Formula
-  log : List Event
-  shows : List ℕ
+-- a table, a rule, a log, and what is shown
+pub record Row : Type 0 where
+  pub on : Plant
+  pub rule : Formula
+  pub log : List Event
+  pub shows : List ℕ
 
 abbrev row : Plant → Formula → List Event → List ℕ → Row
 row T f es n = record { on = T; rule = f; log = es; shows = n }
@@ -50,7 +51,7 @@ abbrev shown : Row → List ℕ
 shown r = let m = runOf (r .on) (r .rule) (liveSet (r .on) (r .rule)) (r .log) in verdict m ∷ left m ∷ []
 
 -- M1 to M10, and the four lines of the program's example
-abbrev marked : List Row
+abbrev pub marked : List Row
 marked =
     row W always [] (1 ∷ 1 ∷ [])
     ∷ row W (globally (implies (prop 0) (finally (prop 1)))) [] (0 ∷ 1 ∷ [])

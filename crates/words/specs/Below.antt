@@ -23,11 +23,6 @@ unfoldable pub countBelow : ℕ → (ℕ → Bool) → ℕ
 countBelow zero P = 0
 countBelow (suc n) P = countBelow n P + digit (P n)
 
--- f 0 + f 1 + .. + f (n - 1)
-unfoldable pub sumBelow : ℕ → (ℕ → ℕ) → ℕ
-sumBelow zero f = 0
-sumBelow (suc n) f = sumBelow n f + f n
-
 -- the first number below n that has P, and n where none has
 unfoldable pub firstBelow : ℕ → (ℕ → Bool) → ℕ
 unfolding anyBelow

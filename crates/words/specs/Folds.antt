@@ -1,15 +1,15 @@
 -- The laws of what a loop over 0, 1, .. n - 1 finds out: a turn of the loop (`..-more`, at the code's i + 1), what it means, and that equal
 -- tests give equal answers (`..-same`).
-use Prim.Native.Nat.{ℕ, zero, suc, _+_, _*_, _≤_, _<_}
+use Prim.Native.Nat.{ℕ, zero, suc, _+_, _≤_, _<_}
 use mathlib.Core.Path.{_≡_, refl, sym, ap, ap₂, _∙_}
 use mathlib.Core.Bool.{Bool, true, false, So, _&&_, _||_, false≢true}
 use mathlib.Core.Logic.{⊎-elim, inl, inr}
-use native.Mathlib.Nat.{add-comm, add-zero, suc-mul, eq-or-lt-of-le}
+use native.Mathlib.Nat.{add-comm, add-zero, eq-or-lt-of-le}
 use native.Mathlib.Omega.{arith}
 use native.Mathlib.Numerals.{add-one}
 use Rattle.meaning.specs.Says.{Says}
 use Rattle.words.specs.Word.{digit}
-use Rattle.words.specs.Below.{anyBelow, allBelow, firstBelow, sumBelow, countBelow}
+use Rattle.words.specs.Below.{anyBelow, allBelow, firstBelow, countBelow}
 use Rattle.words.specs.Tests.{below-cases}
 use Rattle.words.specs.Truth.{not-so, and-says, or-says}
 
@@ -169,29 +169,3 @@ pub count-first : (n : ℕ) (P : ℕ → Bool) → countBelow (suc n) P ≡ digi
 unfolding countBelow
 count-first zero P = add-comm 0 (digit (P 0))
 count-first (suc n) P = let h = count-first n P in omega arith
-
--- ---- sumBelow
-
--- greater terms, a greater sum
-pub sum-le : (n : ℕ) (f g : ℕ → ℕ) → ((k : ℕ) → k < n → f k ≤ g k) → sumBelow n f ≤ sumBelow n g
-unfolding sumBelow
-sum-le zero f g h = omega arith
-sum-le (suc n) f g h = let r = sum-le n f g (λ k l. h k (omega arith)) in let t = h n (omega arith) in omega arith
-
--- sums of terms in order are equal only where each term is
-pub sum-equal : (n : ℕ) (f g : ℕ → ℕ) → ((k : ℕ) → k < n → f k ≤ g k) → sumBelow n f ≡ sumBelow n g → (k : ℕ) → k < n → f k ≡ g k
-unfolding sumBelow
-sum-equal zero f g h e k l = absurd (omega arith)
-sum-equal (suc n) f g h e k l =
-    let r = sum-le n f g (λ k l. h k (omega arith)) in
-    let t = h n (omega arith) in
-    ⊎-elim (λ m. sum-equal n f g (λ k l. h k (omega arith)) (omega arith) k m) (λ i. rw i (omega arith)) (below-cases l)
-
--- n terms below a bound add up to less than n times it
-pub sum-most : (n b : ℕ) (f : ℕ → ℕ) → ((k : ℕ) → k < n → f k ≤ b) → sumBelow n f ≤ n * b
-unfolding sumBelow
-sum-most zero b f h = omega arith
-sum-most (suc n) b f h =
-    let r = sum-most n b f (λ k l. h k (omega arith)) in
-    let t = h n (omega arith) in
-    let e = suc-mul n b in omega arith

@@ -1,0 +1,8 @@
+pub mod Sweeps
+pub mod Scan
+pub mod Settling
+pub mod Laws
+pub mod Right
+pub mod Rounds
+pub mod Turns
+pub mod Lives

@@ -1,0 +1,10 @@
+pub mod Ops
+pub mod Filled
+pub mod Shape
+pub mod Nodes
+pub mod Turns
+pub mod Whole
+pub mod Rows
+pub mod Ready
+pub mod Tables
+pub mod Right

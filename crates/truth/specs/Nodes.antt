@@ -1,0 +1,51 @@
+-- For each place and valuation the states where what ends there holds, word p * 64 + v, as the loop finds them.
+use Prim.Native.Nat.{ℕ, zero, suc, _+_, _-_, _*_, _/_, _%_, _^_}
+use mathlib.Core.Bool.{cond, _&&_}
+use mathlib.Core.List.{List}
+use lib.Bits.{bitAnd, bitOr}
+use lib.Dec.{ltb}
+use lib.ListN.{getD, set, replicate}
+use Rattle.meaning.specs.Bit.{bit}
+use Rattle.syntax.specs.declared.Op.{Op}
+use Rattle.syntax.specs.declared.Op.the-variants.{False, True, Prop, Not, Next, Finally, Globally, Until, Release, And, Or, Implies}
+use Rattle.syntax.specs.declared.Node.{Node}
+use Rattle.words.specs.Word.{onlyOf}
+use Rattle.words.specs.Below.{listBelow, wordsBelow}
+use Rattle.labels.specs.Labels.{havingOf}
+use Rattle.truth.specs.Ops.{opAt}
+
+unfoldable pub havings : List ℕ → List ℕ
+havings label = listBelow 8 (havingOf label)
+
+-- part k at the valuation v: all states or none
+abbrev pub ownOf : ℕ → ℕ → ℕ
+ownOf v k = onlyOf (ltb k 6 && bit v k) (2 ^ 64 - 1)
+
+-- a node's word from its operands' words, x the first of two and y the last
+abbrev pub madeOf : Op → List ℕ → ℕ → ℕ → ℕ → ℕ
+madeOf False having x y own = 0
+madeOf True having x y own = 2 ^ 64 - 1
+madeOf (Prop p) having x y own = getD having p 0
+madeOf Not having x y own = 2 ^ 64 - 1 - y
+madeOf Next having x y own = own
+madeOf Finally having x y own = own
+madeOf Globally having x y own = own
+madeOf Until having x y own = own
+madeOf Release having x y own = own
+madeOf And having x y own = bitAnd x y
+madeOf Or having x y own = bitOr x y
+madeOf Implies having x y own = bitOr (2 ^ 64 - 1 - x) y
+
+abbrev pub wordAt : List ℕ → ℕ → ℕ → ℕ
+wordAt words place v = cond (ltb place 33) (getD words (place * 64 + v) 0) 0
+
+-- the words after n turns
+unfoldable pub nodesAfter : List Node → List ℕ → List ℕ → List ℕ → ℕ → List ℕ
+nodesAfter nodes having begins numbers zero = replicate 2112 0
+nodesAfter nodes having begins numbers (suc n) =
+    let w = nodesAfter nodes having begins numbers n in
+    set w (n + 64) (madeOf (opAt nodes (n / 64)) having (wordAt w (getD begins (n / 64) 0) (n % 64)) (getD w n 0) (ownOf (n % 64) (getD numbers (n / 64) 0)))
+
+-- the rule's own words
+abbrev pub holdsOf : List ℕ → ℕ → List ℕ
+holdsOf words len = wordsBelow 64 (λ v. wordAt words len v)

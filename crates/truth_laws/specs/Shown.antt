@@ -1,0 +1,151 @@
+-- The word behind a rule's last node shows where the rule holds, and so for each of its operands.
+use Prim.Native.Nat.{ℕ, suc, _+_, _-_, _*_, _^_, _≤_, _<_}
+use mathlib.Core.Path.{_≡_, refl, sym, ap, subst, _∙_}
+use mathlib.Core.Bool.{Bool, true, cond, _&&_}
+use mathlib.Core.List.{List}
+use native.Mathlib.Omega.{arith}
+use native.Mathlib.Nat.{lt-of-lt-of-le}
+use native.Mathlib.Decide.{decLt}
+use lib.Pow.{pow-mono}
+use lib.ListN.{length, getD, List·getD-eq-default}
+use borrow.Author.Tests.{lt-ltb}
+use Rattle.meaning.specs.Bit.{bit}
+use Rattle.meaning.specs.Formula.{Formula, never, always, prop, neg, next, finally, globally, until, release, and, or, implies, parts}
+use Rattle.meaning.specs.Run.{Plant}
+use Rattle.meaning.specs.Limits.{AcceptedTable}
+use Rattle.syntax.specs.declared.Op.{Op}
+use Rattle.syntax.specs.declared.Op.the-variants.{False, True, Prop, Not, Next, Finally, Globally, Until, Release, And, Or, Implies}
+use Rattle.syntax.specs.declared.Rule.{Rule}
+use Rattle.syntax.specs.Print.{Below}
+use Rattle.words.specs.Lists.{list-at, length-list}
+use Rattle.words.specs.Unions.{wordOf-lt}
+use Rattle.labels.specs.Labels.{havingOf}
+use Rattle.model.specs.Values.{Shows, wholly, shows-never, shows-always, shows-prop, shows-neg, shows-next, shows-finally, shows-globally, shows-until, shows-release, shows-and, shows-or, shows-implies}
+use Rattle.truth.specs.Ops.{opAt, isPart}
+use Rattle.truth.specs.Shape.{beginsOf, numbersOf, partsIn, orderIn}
+use Rattle.truth.specs.Nodes.{havings, ownOf, madeOf, wordAt}
+use Rattle.truth.specs.Tables.{wordsIn}
+use Rattle.truth_laws.specs.Begins.{begins-before}
+use Rattle.truth_laws.specs.Words.{after-small, word-small, word-made}
+use Rattle.truth_laws.specs.Tree.{Tree, leaf, one, two, treeOf, nodesIn}
+use Rattle.truth_laws.specs.Numbers.{PartAt}
+use Rattle.truth_laws.specs.Occurs.{Occurs, leaf-op, one-op, one-plain, one-part, one-inside, two-op, two-left, two-plain, two-part, two-begins, two-inside}
+
+-- part k, one of the six, at the valuation v
+pub own-wholly : (v k : ℕ) → k < 6 → ownOf v k ≡ wholly (bit v k)
+own-wholly v k l = ap (λ (b : Bool). cond (b && bit v k) (2 ^ 64 - 1) 0) (lt-ltb k 6 l)
+
+module _ (T : Plant) (A : AcceptedTable T) (rule : Rule) where
+  abbrev label : List ℕ
+  label = T .label
+
+  -- the word of a place
+  abbrev word : ℕ → ℕ → ℕ
+  word p v = wordAt (wordsIn label rule) p v
+
+  abbrev begins : List ℕ
+  begins = beginsOf (rule .nodes) (rule .len)
+
+  abbrev numbers : List ℕ
+  numbers = numbersOf (orderIn rule) (partsIn rule)
+
+  few-labels : length label ≤ 64
+  few-labels = omega (arith, A .labels, A .few-states)
+
+  having-small : (p : ℕ) → getD (havings label) p 0 < 2 ^ 64
+  unfolding havings havingOf
+  having-small p = elim (decLt p 8) [
+    | yes l ↦ rw (list-at 8 (havingOf label) p l) (lt-of-lt-of-le (wordOf-lt (length label) (λ s. bit (getD label s 0) p)) (pow-mono few-labels))
+    | no h ↦ rw (List·getD-eq-default (havings label) 0 {n = p} (omega (arith, length-list 8 (havingOf label)))) (omega arith)
+  ]
+
+  pub small : rule .len ≤ 32 → (p v : ℕ) → word p v < 2 ^ 64
+  unfolding wordsIn
+  small short p v =
+      word-small (wordsIn label rule) (after-small (rule .nodes) (havings label) begins numbers having-small (rule .len * 64) (omega arith)) p v
+
+  -- a node's word from its operands'
+  made : rule .len ≤ 32 → (o : Op) (p v : ℕ) → opAt (rule .nodes) p ≡ o → p < rule .len → v < 64
+      → word (suc p) v ≡ madeOf o (havings label) (word (getD begins p 0) v) (word p v) (ownOf v (getD numbers p 0))
+  unfolding wordsIn
+  made short o p v e l lv =
+      word-made (rule .nodes) (havings label) begins numbers (rule .len) short p v l lv (begins-before (rule .nodes) (rule .len) short p)
+      ∙ ap (λ (x : Op). madeOf x (havings label) (word (getD begins p 0) v) (word p v) (ownOf v (getD numbers p 0))) e
+
+  own-word : (v x k : ℕ) → PartAt rule x k → ownOf v (getD numbers x 0) ≡ wholly (bit v k)
+  own-word v x k c = ap (ownOf v) (c .number) ∙ own-wholly v k (c .few)
+
+  -- by how many operands it takes
+  leaf-word : (o : Op) {i n : ℕ} → Occurs rule (leaf o) i n → (v : ℕ) → v < 64
+      → word (i + nodesIn (leaf o)) v ≡ madeOf o (havings label) (word (getD begins i 0) v) (word i v) (ownOf v (getD numbers i 0))
+  unfolding nodesIn
+  leaf-word o {i} c v lv =
+      let e : i + 1 ≡ suc i = omega arith in
+      ap (λ p. word p v) e ∙ made (c .short) o i v (leaf-op o c) (omega (arith, c .fits)) lv
+
+  one-word : (o : Op) (t : Tree) {i n : ℕ} → Occurs rule (one o t) i n → (v : ℕ) → v < 64
+      → word (i + nodesIn (one o t)) v
+      ≡ madeOf o (havings label) (word (getD begins (i + nodesIn t) 0) v) (word (i + nodesIn t) v) (ownOf v (getD numbers (i + nodesIn t) 0))
+  unfolding nodesIn
+  one-word o t {i} c v lv =
+      let e : i + suc (nodesIn t) ≡ suc (i + nodesIn t) = omega arith in
+      ap (λ p. word p v) e ∙ made (c .short) o (i + nodesIn t) v (one-op o t c) (one-inside o t c) lv
+
+  two-word : (o : Op) (a : Formula) (u : Tree) {i n : ℕ} → Occurs rule (two o (treeOf a) u) i n → (v : ℕ) → v < 64
+      → word (i + nodesIn (two o (treeOf a) u)) v
+      ≡ madeOf o (havings label) (word (i + nodesIn (treeOf a)) v) (word (i + nodesIn (treeOf a) + nodesIn u) v) (ownOf v (getD numbers (i + nodesIn (treeOf a) + nodesIn u) 0))
+  unfolding nodesIn
+  two-word o a u {i} c v lv =
+      let j = i + nodesIn (treeOf a) in
+      let e : i + suc (nodesIn (treeOf a) + nodesIn u) ≡ suc (j + nodesIn u) = omega arith in
+      ap (λ p. word p v) e ∙ made (c .short) o (j + nodesIn u) v (two-op o a u c) (two-inside o a u c) lv
+      ∙ ap (λ p. madeOf o (havings label) (word p v) (word (j + nodesIn u) v) (ownOf v (getD numbers (j + nodesIn u) 0))) (two-begins o a u c)
+
+  -- a part's word is its own value
+  abbrev Own : Op → Type 0
+  Own o = (isPart o ≡ true) × ((h : List ℕ) (x y w : ℕ) → madeOf o h x y w ≡ w)
+
+  part-one : (o : Op) → Own o → (t : Tree) {i n : ℕ} → Occurs rule (one o t) i n → (v : ℕ) → v < 64
+      → wholly (bit v n) ≡ word (i + nodesIn (one o t)) v
+  part-one o (e, own) t {i} {n} c v lv = sym (one-word o t c v lv ∙ own _ _ _ _ ∙ own-word v (i + nodesIn t) n (one-part o t c e .0))
+
+  part-two : (o : Op) → Own o → (a : Formula) (u : Tree) {i n : ℕ} → Occurs rule (two o (treeOf a) u) i n → (v : ℕ) → v < 64
+      → wholly (bit v (n + parts a)) ≡ word (i + nodesIn (two o (treeOf a) u)) v
+  part-two o (e, own) a u {i} {n} c v lv =
+      sym (two-word o a u c v lv ∙ own _ _ _ _ ∙ own-word v (i + nodesIn (treeOf a) + nodesIn u) (n + parts a) (two-part o a u c e .0))
+
+  prop-word : (p : ℕ) → p < 8 → havingOf label p ≡ getD (havings label) p 0
+  unfolding havings
+  prop-word p l = sym (list-at 8 (havingOf label) p l)
+
+  pub shown : (g : Formula) {i n : ℕ} → Occurs rule (treeOf g) i n → Below (T .props) g → (v : ℕ) → v < 64
+      → Shows T g n v (word (i + nodesIn (treeOf g)) v)
+  unfolding treeOf Below
+  shown never {n} c b v lv = subst (Shows T never n v) (sym (leaf-word False c v lv)) (shows-never T A n v)
+  shown always {n} c b v lv = subst (Shows T always n v) (sym (leaf-word True c v lv)) (shows-always T A n v)
+  shown (prop p) {n} c b v lv =
+      subst (Shows T (prop p) n v) (prop-word p (omega (arith, A .few-props)) ∙ sym (leaf-word (Prop p) c v lv)) (shows-prop T A n v p)
+  shown (neg a) {i} {n} c b v lv = subst (Shows T (neg a) n v) (sym (one-word Not (treeOf a) c v lv))
+      (shows-neg T A n v a _ (small (c .short) (i + nodesIn (treeOf a)) v) (shown a (one-plain Not (treeOf a) c refl) b v lv))
+  shown (next a) {n} c b v lv = subst (Shows T (next a) n v) (part-one Next (refl, λ h x y w. refl) (treeOf a) c v lv) (shows-next T A n v a)
+  shown (finally a) {n} c b v lv =
+      subst (Shows T (finally a) n v) (part-one Finally (refl, λ h x y w. refl) (treeOf a) c v lv) (shows-finally T A n v a)
+  shown (globally a) {n} c b v lv =
+      subst (Shows T (globally a) n v) (part-one Globally (refl, λ h x y w. refl) (treeOf a) c v lv) (shows-globally T A n v a)
+  shown (until a b) {n} c k v lv =
+      subst (Shows T (until a b) n v) (part-two Until (refl, λ h x y w. refl) a (treeOf b) c v lv) (shows-until T A n v a b)
+  shown (release a b) {n} c k v lv =
+      subst (Shows T (release a b) n v) (part-two Release (refl, λ h x y w. refl) a (treeOf b) c v lv) (shows-release T A n v a b)
+  shown (and a b) {n} c k v lv =
+      let p = shown a (two-left And a (treeOf b) c) (k .0) v lv in
+      let q = shown b (two-plain And a (treeOf b) c refl) (k .1) v lv in
+      subst (Shows T (and a b) n v) (sym (two-word And a (treeOf b) c v lv)) (shows-and T A n v a b _ _ p q)
+  shown (or a b) {n} c k v lv =
+      let p = shown a (two-left Or a (treeOf b) c) (k .0) v lv in
+      let q = shown b (two-plain Or a (treeOf b) c refl) (k .1) v lv in
+      subst (Shows T (or a b) n v) (sym (two-word Or a (treeOf b) c v lv)) (shows-or T A n v a b _ _ p q)
+  shown (implies a b) {i} {n} c k v lv =
+      let p = shown a (two-left Implies a (treeOf b) c) (k .0) v lv in
+      let q = shown b (two-plain Implies a (treeOf b) c refl) (k .1) v lv in
+      subst (Shows T (implies a b) n v) (sym (two-word Implies a (treeOf b) c v lv))
+      (shows-implies T A n v a b _ _ p q (small (c .short) (i + nodesIn (treeOf a)) v))
