@@ -1,0 +1,34 @@
+-- What `prepare` answers: 01's checks, and behind them the live set of the table and the rule.
+use Prim.Native.Nat.{ℕ, _-_, _^_}
+use mathlib.Core.List.{List}
+use lib.ListN.{replicate}
+use Rattle.model.specs.LiveSet.{liveSet}
+use Rattle.leads.specs.Halves.{leavingOf, enteringOf}
+use Rattle.sweeps.specs.Rounds.{everyOf, settleOf}
+use Rattle.answers.specs.declared.Outcome.{Outcome}
+use Rattle.answers.specs.declared.Outcome.the-variants.{Accepted, Refused}
+use Rattle.plant.specs.declared.Plant.{Plant}
+use Rattle.plant.specs.Table.{plantOf}
+use Rattle.syntax.specs.declared.Rule.{Rule}
+use Rattle.truth.specs.declared.tables.Tables.{Tables}
+use Rattle.truth.specs.Tables.{tablesOf}
+use Rattle.checks.specs.Checks.{formulaOf, inputOutcome}
+use Rattle.live.specs.declared.Prepared.{Prepared}
+
+-- with a refusal the empty set
+abbrev pub preparedAs : Outcome → List ℕ → Prepared
+preparedAs Accepted live = record { outcome = Accepted; live = record { words = live } }
+preparedAs (Refused r) live = record { outcome = Refused r; live = record { words = replicate 64 0 } }
+
+unfoldable pub preparedOf : Plant → List ℕ → List ℕ → List ℕ → Rule → Prepared
+preparedOf p fair label next rule = preparedAs (inputOutcome p fair label next rule) (liveSet (plantOf p fair label next) (formulaOf rule))
+
+-- ---- the live set as code works it out
+
+unfoldable pub liveBy : Tables → ℕ → List ℕ → List ℕ → List ℕ
+liveBy t states fair next =
+    settleOf fair next (leavingOf (t .parts) (t .low) (t .high)) (enteringOf (t .parts) (t .nexts) (t .operand)) (t .settled) (t .parts)
+    (everyOf (2 ^ t .parts) (2 ^ states - 1))
+
+unfoldable pub liveOf : ℕ → List ℕ → List ℕ → List ℕ → Rule → List ℕ
+liveOf states fair label next rule = liveBy (tablesOf label rule) states fair next

@@ -1,0 +1,48 @@
+-- With right tables the live set worked out is that of the model.
+use Prim.Native.Nat.{ℕ, _-_, _^_, _≤_}
+use mathlib.Core.Path.{_≡_, refl, sym, ap, subst, _∙_}
+use mathlib.Core.List.{List}
+use Rattle.meaning.specs.Formula.{Formula, parts}
+use Rattle.meaning.specs.Run.{Plant}
+use Rattle.meaning.specs.Limits.{AcceptedTable, Small}
+use Rattle.model.specs.LiveSet.{allPairs, liveSet}
+use Rattle.leads.specs.Halves.{leavingOf, enteringOf}
+use Rattle.leads.specs.Right.{before-halves}
+use Rattle.sweeps.specs.Rounds.{everyOf, settleOf}
+use Rattle.sweeps.specs.Right.{Moves}
+use Rattle.sweeps.specs.Lives.{live-right}
+use Rattle.syntax.specs.declared.Rule.{Rule}
+use Rattle.truth.specs.declared.tables.Tables.{Tables}
+use Rattle.truth.specs.Ready.{Ready}
+use Rattle.truth.specs.Tables.{tablesOf}
+use Rattle.truth.specs.Right.{RightTables}
+use Rattle.live.specs.Prepare.{liveBy, liveOf}
+
+-- ---- what the code has
+
+-- the parts of a rule that is ready are few
+pub few-parts : {t : Tables} {label : List ℕ} {rule : Rule} → t ≡ tablesOf label rule → Ready label rule → t .parts ≤ 6
+unfolding tablesOf
+few-parts e ok = subst (λ (u : Tables). u .parts ≤ 6) (sym e) (ok .few)
+
+-- what its calls give, one after the other
+pub live-is : {t : Tables} (states : ℕ) (fair label next : List ℕ) (rule : Rule) {leave enter all r : List ℕ} {n word : ℕ} → t ≡ tablesOf label rule
+    → leave ≡ leavingOf (t .parts) (t .low) (t .high) → enter ≡ enteringOf (t .parts) (t .nexts) (t .operand) → n ≡ 2 ^ t .parts → word ≡ 2 ^ states - 1
+    → all ≡ everyOf n word → r ≡ settleOf fair next leave enter (t .settled) (t .parts) all → r ≡ liveOf states fair label next rule
+unfolding liveOf liveBy
+live-is states fair label next rule e el ee en ew ea er = er ∙ rw (el, ee, ea, en, ew) (ap (λ (u : Tables). liveBy u states fair next) e)
+
+-- ---- what it means
+
+every-all : (T : Plant) (f : Formula) → everyOf (2 ^ parts f) (2 ^ T .states - 1) ≡ allPairs T f
+unfolding everyOf allPairs
+every-all T f = refl
+
+module _ (T : Plant) (f : Formula) (A : AcceptedTable T) (small : Small f) (t : Tables) (R : RightTables T f t) where
+  moves : Moves T f (leavingOf (parts f) (t .low) (t .high)) (enteringOf (parts f) (t .nexts) (t .operand))
+  moves = record { leading = before-halves T f A small (t .low) (t .high) (t .nexts) (t .operand) (R .low) (R .high) (R .nexts) (R .operand) }
+
+  pub live-by : liveBy t (T .states) (T .fair) (T .next) ≡ liveSet T f
+  unfolding liveBy
+  live-by = rw (R .count, every-all T f)
+      (live-right T f A small (leavingOf (parts f) (t .low) (t .high)) (enteringOf (parts f) (t .nexts) (t .operand)) moves (t .settled) (R .settled))

@@ -1,0 +1,60 @@
+// The live pairs of a table and a rule: from all pairs, those from which some goal is not reached are dropped again and again.
+use answers::Outcome;
+use leads::halves::entering;
+use leads::halves::leaving;
+use pairs::Pairs;
+use plant::Plant;
+use sweeps::rounds::every;
+use sweeps::rounds::settle;
+use syntax::Rule;
+ghost use mathlib.Core.Path.{_≡_};
+ghost use Prim.Native.Nat.{_≤_};
+ghost use lib.ListN.{length};
+ghost use Rattle.truth.specs.Ready.{Ready};
+ghost use Rattle.live.specs.Prepare.{liveOf, preparedOf};
+
+// A refusal comes with the empty set.
+pub struct Prepared {
+    pub outcome: Outcome,
+    pub live: Pairs,
+}
+
+// The live pairs of an accepted table and rule.
+fn live_pairs(states: usize, fair: &[u64], label: &[u16], next: &[u64], rule: Rule) -> Pairs
+    requires { ⌜ Ready (now label) rule × ((1 ≤ states) × (states ≤ 64)) × (length (now fair) ≤ 4) ⌝ }
+    ensures { λ r. ⌜ r .words ≡ liveOf states (now (fair .entry)) (now (label .entry)) (now (next .entry)) rule ⌝ }
+{
+    let tables = truth::tables::tables_of(label, rule);
+    let low = tables.low;
+    let high = tables.high;
+    let operand = tables.operand;
+    let settled = tables.settled;
+    let leave = leaving(tables.parts, &low, &high);
+    let enter = entering(tables.parts, tables.nexts, &operand);
+    let all = every(moves::valuations(tables.parts), words::all(states));
+    settle(
+        fair,
+        next,
+        &leave.words,
+        &enter.words,
+        &settled,
+        tables.parts,
+        all,
+    )
+}
+
+pub fn prepare(plant: Plant, fair: &[u64], label: &[u16], next: &[u64], rule: Rule) -> Prepared
+    ensures { λ r. ⌜ r ≡ preparedOf plant (now (fair .entry)) (now (label .entry)) (now (next .entry)) rule ⌝ }
+{
+    let outcome = checks::check_input(plant, fair, label, next, rule);
+    match outcome {
+        Outcome::Refused(refusal) => Prepared {
+            outcome: Outcome::Refused(refusal),
+            live: Pairs::empty(),
+        },
+        Outcome::Accepted => Prepared {
+            outcome: Outcome::Accepted,
+            live: live_pairs(plant.states, fair, label, next, rule),
+        },
+    }
+}

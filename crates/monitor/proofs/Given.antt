@@ -1,0 +1,201 @@
+-- What the checks of a call give the code behind them.
+use Prim.Native.Nat.{ℕ, _-_, _^_, _≤_}
+use native.Mathlib.Omega.{arith}
+use mathlib.Core.Path.{_≡_, refl, sym, ap, ap₂, subst, _∙_}
+use mathlib.Core.Logic.{Iff·trans}
+use mathlib.Core.Bool.{Bool, true, false, So, _&&_}
+use mathlib.Core.List.{List}
+use lib.ListN.{length}
+use Rattle.meaning.specs.Formula.{parts}
+use Rattle.words.specs.Truth.{and-says, says-and, says-same}
+use Rattle.pairs.specs.declared.Pairs.{Pairs}
+use Rattle.pairs.specs.Sets.{joinOf}
+use Rattle.model.specs.Monitor as model
+use Rattle.model.specs.Sets.{PairSet}
+use Rattle.model.specs.Checks.{pairsOk, pairs-says, eventOk, legal-says}
+use Rattle.answers.specs.declared.Kind.the-variants.{Value, Event as EventKind}
+use Rattle.answers.specs.declared.Refusal.{Refusal}
+use Rattle.answers.specs.declared.Answer.{Answer}
+use Rattle.answers.specs.declared.Answer.the-variants as Answers
+use Rattle.answers.specs.declared.Outcome.{Outcome}
+use Rattle.answers.specs.declared.Outcome.the-variants.{Accepted, Refused}
+use Rattle.plant.specs.declared.Plant.{Plant}
+use Rattle.syntax.specs.declared.Rule.{Rule}
+use Rattle.log.specs.declared.Event.{Event}
+use Rattle.log.specs.Legal.{seenOf, legalOf, legal-exactly}
+use Rattle.truth.specs.Shape.{partsIn}
+use Rattle.truth.specs.Ready.{Ready}
+use Rattle.truth.specs.declared.tables.Tables.{Tables}
+use Rattle.truth.specs.Tables.{tablesOf}
+use Rattle.truth.specs.Right.{RightTables}
+use Rattle.truth_laws.specs.TablesRight.{tables-right}
+use Rattle.checks.specs.Checks.{andThen, unless, inputOutcome, pairsFit}
+use Rattle.checks.specs.Exactly.{Words, fit-is, join-says, chain-accepts, unless-accepts}
+use Rattle.checks.proofs.Input.{Input, input-accepted}
+use Rattle.monitor.specs.declared.Monitor.{Monitor}
+use Rattle.monitor.specs.declared.Watched.{Watched}
+use Rattle.monitor.specs.Calls.{modelOf, monitorOf, eventOf, none, lampOf, watched, lit, table, formula, checkedOf, openOf, lookOf, stepChecked, stepOf}
+use Rattle.monitor.specs.Checked.{fitOf, heldOf, caughtOf}
+use Rattle.monitor.specs.Sides.{openedOf, steppedOf}
+use Rattle.monitor.specs.Right.{opened-right, stepped-right}
+
+abbrev watchedWith : Answer → Monitor → Watched
+watchedWith a m = record { answer = a; monitor = m }
+
+-- what is ready has few parts
+pub few-parts : {t : Tables} {label : List ℕ} {rule : Rule} → t ≡ tablesOf label rule → Ready label rule → t .parts ≤ 6
+unfolding tablesOf
+few-parts e ok = subst (λ (u : Tables). u .parts ≤ 6) (sym e) (ok .few)
+
+-- a new monitor with its lamp
+lighted : (old : Monitor) (n : model.Monitor) {m : Monitor} {a : Answer} → m ≡ monitorOf n → a ≡ lampOf (modelOf m) → watchedWith a m ≡ watched Accepted old n
+lighted old n e l = ap₂ watchedWith (l ∙ ap (λ (m : Monitor). lampOf (modelOf m)) e) e
+
+and-self : (b : Bool) → (b && b) ≡ b
+and-self true = refl
+and-self false = refl
+
+-- checks in turn
+in-turn : (a b c : Outcome) → andThen (andThen a b) c ≡ andThen a (andThen b c)
+in-turn Accepted b c = refl
+in-turn (Refused r) b c = refl
+
+module _ (p : Plant) (fair label next : List ℕ) (rule : Rule) where
+  -- check 9 of a set of pairs
+  abbrev fine : List ℕ → Bool
+  fine l = pairsOk (table p fair label next rule) (formula p fair label next rule) l
+
+  -- ---- an accepted table and rule
+
+  module _ (i : Input p fair label next rule) where
+    pub right : RightTables (table p fair label next rule) (formula p fair label next rule) (tablesOf label rule)
+    right = tables-right (table p fair label next rule) (formula p fair label next rule) rule (i .table) (i .is) (i .small) (i .few) (i .below)
+
+    pub parts-is : partsIn rule ≡ parts (formula p fair label next rule)
+    unfolding tablesOf
+    parts-is = right .count
+
+    pub ready : Ready label rule
+    ready = record {
+      labels = omega (arith, i .table .labels, i .table .few-states);
+      long = subst (λ (r : Rule). r .len ≤ 32) (sym (i .is)) (i .small);
+      few = omega (arith, parts-is, i .few);
+    }
+
+    -- the tests of two sets of pairs, by the numbers that the code has for states and valuations
+    pub fits-are : {k s n : ℕ} {x y : Bool} (one two : List ℕ) → k ≡ partsIn rule → s ≡ 2 ^ p .states - 1 → n ≡ 2 ^ k → x ≡ pairsFit one s n → y ≡ pairsFit two s n
+        → (x && y) ≡ (fitOf p fair label next rule one && fitOf p fair label next rule two)
+    fits-are one two ek es en ex ey =
+        let many = en ∙ ap (λ (j : ℕ). 2 ^ j) (ek ∙ parts-is) in
+        ap₂ _&&_ (ex ∙ ap₂ (pairsFit one) es many) (ey ∙ ap₂ (pairsFit two) es many)
+
+  module _ (full : length (rule .nodes) ≡ 32) where
+    pub accepted : {o : Outcome} → o ≡ inputOutcome p fair label next rule → o ≡ Accepted → Input p fair label next rule
+    accepted e a = input-accepted p fair label next rule full .0 (sym e ∙ a)
+
+    -- a chain behind the check of table and rule, by what is so if they are accepted
+    behind : (a b : Outcome) → (Input p fair label next rule → a ≡ b) → andThen (inputOutcome p fair label next rule) a ≡ andThen (inputOutcome p fair label next rule) b
+    behind a b h = go (inputOutcome p fair label next rule) refl
+      where
+        go : (o : Outcome) → o ≡ inputOutcome p fair label next rule → andThen o a ≡ andThen o b
+        go Accepted e = h (accepted e refl)
+        go (Refused r) e = refl
+
+    -- of checks 1, 2 and 9
+    both-accepted : (sets : Bool) → checkedOf p fair label next rule sets ≡ Accepted → Input p fair label next rule × So sets
+    both-accepted sets e =
+        let (i, o) = chain-accepts (inputOutcome p fair label next rule) (unless sets Value) .0 e in
+        (accepted refl i, unless-accepts sets Value .0 o)
+
+    -- the code's checks are those of the model
+    pub held-is : {one two : List ℕ} → Words one → Words two → heldOf p fair label next rule one two ≡ checkedOf p fair label next rule (fine one && fine two)
+    unfolding heldOf
+    held-is {one} {two} w x =
+        behind _ _ (λ i. ap (λ (b : Bool). unless b Value) (ap₂ _&&_ (fit-is _ _ (i .table .few-states) one w) (fit-is _ _ (i .table .few-states) two x)))
+
+    -- ---- open
+
+    module _ (live : Pairs) (w : Words (live .words)) {o : Outcome} (e : o ≡ heldOf p fair label next rule (live .words) (live .words)) where
+      abbrev new : model.Monitor
+      new = model.opening (table p fair label next rule) (formula p fair label next rule) (live .words)
+
+      opens-checked : o ≡ checkedOf p fair label next rule (fine (live .words))
+      opens-checked = e ∙ held-is w w ∙ ap (checkedOf p fair label next rule) (and-self (fine (live .words)))
+
+      pub open-input : o ≡ Accepted → Input p fair label next rule
+      open-input g = both-accepted (fine (live .words)) (sym opens-checked ∙ g) .0
+
+      pub not-opened : {r : Refusal} → o ≡ Refused r → record { answer = Answers.Refused r; monitor = none } ≡ openOf p fair label next rule live
+      unfolding openOf
+      not-opened g = ap (λ (x : Outcome). watched x none new) (sym g ∙ opens-checked)
+
+      pub is-opened : {m : Monitor} {a : Answer} → o ≡ Accepted → m ≡ openedOf (p .start) label rule live → a ≡ lampOf (modelOf m) → watchedWith a m ≡ openOf p fair label next rule live
+      unfolding openOf
+      is-opened g em el =
+          let (i, sets) = both-accepted (fine (live .words)) (sym opens-checked ∙ g) in
+          let z = pairs-says _ _ (live .words) .0 sets in
+          lighted none new (em ∙ opened-right _ _ (i .table) (i .few) rule (right i) live z) el
+          ∙ ap (λ (x : Outcome). watched x none new) (sym g ∙ opens-checked)
+
+    -- ---- look
+
+    module _ (m : Monitor) (w : Words (m .keeps .words)) (x : Words (m .breaks .words)) {o : Outcome} (e : o ≡ heldOf p fair label next rule (m .keeps .words) (m .breaks .words)) where
+      pub not-lit : {r : Refusal} → o ≡ Refused r → Answers.Refused r ≡ lookOf p fair label next rule m
+      unfolding lookOf
+      not-lit g = ap (λ (y : Outcome). lit y (modelOf m)) (sym g ∙ e ∙ held-is w x)
+
+      pub is-lit : {a : Answer} → o ≡ Accepted → a ≡ lampOf (modelOf m) → a ≡ lookOf p fair label next rule m
+      unfolding lookOf
+      is-lit g el = el ∙ ap (λ (y : Outcome). lit y (modelOf m)) (sym g ∙ e ∙ held-is w x)
+
+    -- ---- step
+
+    module _ (live : Pairs) (m : Monitor) (event : Event) (w : Words (live .words)) (x : Words (m .keeps .words)) (y : Words (m .breaks .words))
+        {o : Outcome} (e : o ≡ caughtOf p fair label next rule live m event) where
+      abbrev after : model.Monitor
+      after = model.stepOf (table p fair label next rule) (formula p fair label next rule) (live .words) (modelOf m) (eventOf event)
+
+      abbrev sets : Bool
+      sets = fine (live .words) && (fine (m .keeps .words) && fine (m .breaks .words))
+
+      step-checked : o ≡ stepChecked p fair label next rule live m event
+      unfolding caughtOf heldOf
+      step-checked =
+          e ∙ in-turn (inputOutcome p fair label next rule) _ _
+          ∙ behind _ _ (λ i. ap₂ (λ (b c : Bool). andThen (unless b Value) (unless c EventKind)) (both-sides i) (legal-is i))
+          ∙ sym (in-turn (inputOutcome p fair label next rule) _ _)
+        where
+          both-sides : Input p fair label next rule → (fitOf p fair label next rule (live .words) && fitOf p fair label next rule (joinOf (m .keeps .words) (m .breaks .words))) ≡ sets
+          both-sides i =
+              ap₂ _&&_ (fit-is _ _ (i .table .few-states) (live .words) w)
+              (says-same (join-says _ _ (i .table .few-states) (m .keeps .words) (m .breaks .words) x y) (says-and (pairs-says _ _ (m .keeps .words)) (pairs-says _ _ (m .breaks .words))))
+
+          legal-is : Input p fair label next rule → legalOf event (p .props) ≡ eventOk (table p fair label next rule) (seenOf event)
+          legal-is i =
+              says-same (Iff·trans (legal-exactly (table p fair label next rule) event) (λ h. h .1, λ l. (omega (arith, i .table .few-props), l)))
+              (legal-says (table p fair label next rule) (seenOf event))
+
+      step-accepted : o ≡ Accepted → Input p fair label next rule × So sets
+      step-accepted g = both-accepted sets (chain-accepts (checkedOf p fair label next rule sets) _ .0 (sym step-checked ∙ g) .0)
+
+      pub step-input : o ≡ Accepted → Input p fair label next rule
+      step-input g = step-accepted g .0
+
+      pub not-stepped : {r : Refusal} → o ≡ Refused r → record { answer = Answers.Refused r; monitor = m } ≡ stepOf p fair label next rule live m event
+      unfolding stepOf
+      not-stepped g = ap (λ (z : Outcome). watched z m after) (sym g ∙ step-checked)
+
+      pub is-stepped : {n : Monitor} {a : Answer} → o ≡ Accepted → n ≡ steppedOf (p .start) label next rule live m event → a ≡ lampOf (modelOf n) → watchedWith a n ≡ stepOf p fair label next rule live m event
+      unfolding stepOf
+      is-stepped g en el =
+          let (i, all) = step-accepted g in
+          let (first, rest) = and-says (fine (live .words)) _ .0 all in
+          let (keeps, breaks) = and-says (fine (m .keeps .words)) _ .0 rest in
+          let z = pairs-says _ _ (live .words) .0 first in
+          lighted m after (en ∙ stepped-right _ _ (i .table) (i .few) rule (right i) live z m (held (pairs-says _ _ (m .keeps .words) .0 keeps) (pairs-says _ _ (m .breaks .words) .0 breaks)) event) el
+          ∙ ap (λ (z : Outcome). watched z m after) (sym g ∙ step-checked)
+        where
+          held : PairSet (table p fair label next rule) (formula p fair label next rule) (m .keeps .words) → PairSet (table p fair label next rule) (formula p fair label next rule) (m .breaks .words)
+              → (b : Bool) → PairSet (table p fair label next rule) (formula p fair label next rule) (model.side (modelOf m) b)
+          held k b true = k
+          held k b false = b

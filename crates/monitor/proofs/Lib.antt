@@ -1,0 +1,3 @@
+mod Words
+pub mod Given
+pub mod Promises

@@ -1,0 +1,85 @@
+-- What the calls on a monitor answer: 01's checks in their order, and behind them the monitor of `model`, which its theorems speak of.
+use Prim.Native.Nat.{ℕ}
+use mathlib.Core.Bool.{Bool, false, _&&_, not}
+use mathlib.Core.List.{List}
+use lib.ListN.{replicate}
+use Rattle.meaning.specs.Formula.{Formula}
+use Rattle.meaning.specs.Run as run
+use Rattle.meaning.specs.Event as meaning
+use Rattle.pairs.specs.declared.Pairs.{Pairs}
+use Rattle.pairs.specs.Sets.{emptyOf}
+use Rattle.model.specs.Monitor as model
+use Rattle.model.specs.Checks.{pairsOk, eventOk}
+use Rattle.answers.specs.declared.Kind.the-variants.{Value, Event as EventKind}
+use Rattle.answers.specs.declared.Answer.{Answer}
+use Rattle.answers.specs.declared.Answer.the-variants as Answers
+use Rattle.answers.specs.declared.Outcome.{Outcome}
+use Rattle.answers.specs.declared.Outcome.the-variants.{Accepted, Refused}
+use Rattle.answers.specs.Paper.{shown}
+use Rattle.plant.specs.declared.Plant.{Plant}
+use Rattle.plant.specs.Table.{plantOf}
+use Rattle.syntax.specs.declared.Rule.{Rule}
+use Rattle.log.specs.declared.Event.{Event}
+use Rattle.log.specs.Legal.{seenOf}
+use Rattle.checks.specs.Checks.{andThen, unless, formulaOf, inputOutcome}
+use Rattle.monitor.specs.declared.Monitor.{Monitor}
+use Rattle.monitor.specs.declared.Watched.{Watched}
+
+-- ---- a monitor and an event, as code has them and as the model has them
+
+abbrev pub modelOf : Monitor → model.Monitor
+modelOf m = record { seen = m .seen; keeps = m .keeps .words; breaks = m .breaks .words }
+
+abbrev pub monitorOf : model.Monitor → Monitor
+monitorOf m = record { seen = m .seen; keeps = record { words = m .keeps }; breaks = record { words = m .breaks } }
+
+abbrev pub eventOf : Event → meaning.Event
+eventOf e = record { seen = seenOf e; new = e .new }
+
+-- the monitor beside a refusal to open one
+abbrev pub none : Monitor
+none = record { seen = false; keeps = record { words = replicate 64 0 }; breaks = record { words = replicate 64 0 } }
+
+-- ---- the lamp
+
+-- the verdict by which sets are occupied, and in how many states the plant can be
+abbrev pub lampOf : model.Monitor → Answer
+lampOf m = shown (not (emptyOf (m .keeps))) (not (emptyOf (m .breaks))) (model.left m)
+
+-- with a refusal the monitor handed in, else the new one and its lamp
+abbrev pub watched : Outcome → Monitor → model.Monitor → Watched
+watched Accepted old new = record { answer = lampOf new; monitor = monitorOf new }
+watched (Refused r) old new = record { answer = Answers.Refused r; monitor = old }
+
+abbrev pub lit : Outcome → model.Monitor → Answer
+lit Accepted m = lampOf m
+lit (Refused r) m = Answers.Refused r
+
+-- ---- the calls, with the table and the rule that are handed in
+
+module _ (p : Plant) (fair label next : List ℕ) (rule : Rule) where
+  abbrev pub table : run.Plant
+  table = plantOf p fair label next
+
+  abbrev pub formula : Formula
+  formula = formulaOf rule
+
+  -- 1, 2 and 9, where 9 asks for the sets of pairs too
+  abbrev pub checkedOf : Bool → Outcome
+  checkedOf sets = andThen (inputOutcome p fair label next rule) (unless sets Value)
+
+  abbrev fits : Pairs → Bool
+  fits s = pairsOk table formula (s .words)
+
+  unfoldable pub openOf : Pairs → Watched
+  openOf live = watched (checkedOf (fits live)) none (model.opening table formula (live .words))
+
+  unfoldable pub lookOf : Monitor → Answer
+  lookOf m = lit (checkedOf (fits (m .keeps) && fits (m .breaks))) (modelOf m)
+
+  -- 10 comes last
+  abbrev pub stepChecked : Pairs → Monitor → Event → Outcome
+  stepChecked live m e = andThen (checkedOf (fits live && (fits (m .keeps) && fits (m .breaks)))) (unless (eventOk table (seenOf e)) EventKind)
+
+  unfoldable pub stepOf : Pairs → Monitor → Event → Watched
+  stepOf live m e = watched (stepChecked live m e) m (model.stepOf table formula (live .words) (modelOf m) (eventOf e))

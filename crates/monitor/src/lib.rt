@@ -1,0 +1,184 @@
+// The monitor: opened, looked at, stepped, by value.
+mod opening;
+mod sides;
+
+use answers::Answer;
+use answers::Kind;
+use answers::Lamp;
+use answers::Outcome;
+use answers::Refusal;
+use answers::Verdict;
+use log::Event;
+use pairs::Pairs;
+use plant::Plant;
+use syntax::Rule;
+ghost use mathlib.Core.Path.{_≡_};
+ghost use Rattle.monitor.specs.Calls.{modelOf, lampOf, openOf, lookOf, stepOf};
+ghost use Rattle.monitor.specs.Checked.{heldOf, caughtOf};
+
+// Whether an event came, and the pairs of the runs that keep the rule and of those that break it.
+pub struct Monitor {
+    pub seen: bool,
+    pub keeps: Pairs,
+    pub breaks: Pairs,
+}
+
+impl Monitor {
+    pub const NONE: Monitor = Monitor {
+        seen: false,
+        keeps: Pairs::EMPTY,
+        breaks: Pairs::EMPTY,
+    };
+}
+
+// The answer, and beside it the monitor. With a refusal it is the monitor handed in; `open` has none, and gives the empty one.
+pub struct Watched {
+    pub answer: Answer,
+    pub monitor: Monitor,
+}
+
+// What the lamp shows.
+fn lamp(monitor: Monitor) -> Answer
+    ensures { λ r. ⌜ r ≡ lampOf (modelOf monitor) ⌝ }
+{
+    let keeps = monitor.keeps;
+    let breaks = monitor.breaks;
+    let kept = keeps.states();
+    let broken = breaks.states();
+    Answer::Shown(Lamp {
+        verdict: Verdict::of(kept != 0, broken != 0),
+        left: pairs::count_states(keeps, breaks),
+    })
+}
+
+// Checks 1, 2 and 9: the table, the rule, and two sets of pairs.
+fn check_held(
+    plant: Plant,
+    fair: &[u64],
+    label: &[u16],
+    next: &[u64],
+    rule: Rule,
+    one: &[u64; 64],
+    two: &[u64; 64],
+) -> Outcome
+    ensures { λ r. ⌜ r ≡ heldOf plant (now (fair .entry)) (now (label .entry)) (now (next .entry)) rule (now (one .entry)) (now (two .entry)) ⌝ }
+{
+    let outcome = checks::check_input(plant, fair, label, next, rule);
+    match outcome {
+        Outcome::Refused(refusal) => Outcome::Refused(refusal),
+        Outcome::Accepted => {
+            let states = words::all(plant.states);
+            let count = moves::valuations(truth::shape::parts_of(rule));
+            let fits = checks::pairs_fit(one, states, count)
+                & checks::pairs_fit(two, states, count);
+            if fits {
+                return Outcome::Accepted;
+            }
+            Outcome::Refused(Refusal::at(Kind::Value, 0))
+        }
+    }
+}
+
+// The live pairs at starting states, by whether the rule holds there.
+pub fn open(
+    plant: Plant,
+    fair: &[u64],
+    label: &[u16],
+    next: &[u64],
+    rule: Rule,
+    live: Pairs,
+) -> Watched
+    ensures { λ r. ⌜ r ≡ openOf plant (now (fair .entry)) (now (label .entry)) (now (next .entry)) rule live ⌝ }
+{
+    let outcome = check_held(plant, fair, label, next, rule, &live.words, &live.words);
+    match outcome {
+        Outcome::Refused(refusal) => Watched {
+            answer: Answer::Refused(refusal),
+            monitor: Monitor::NONE,
+        },
+        Outcome::Accepted => {
+            let monitor = opening::opened(plant.start, label, rule, live);
+            Watched {
+                answer: lamp(monitor),
+                monitor,
+            }
+        }
+    }
+}
+
+// What the lamp shows for a monitor handed in.
+pub fn look(
+    plant: Plant,
+    fair: &[u64],
+    label: &[u16],
+    next: &[u64],
+    rule: Rule,
+    monitor: Monitor,
+) -> Answer
+    ensures { λ r. ⌜ r ≡ lookOf plant (now (fair .entry)) (now (label .entry)) (now (next .entry)) rule monitor ⌝ }
+{
+    let keeps = monitor.keeps;
+    let breaks = monitor.breaks;
+    let outcome = check_held(plant, fair, label, next, rule, &keeps.words, &breaks.words);
+    match outcome {
+        Outcome::Refused(refusal) => Answer::Refused(refusal),
+        Outcome::Accepted => lamp(monitor),
+    }
+}
+
+// Checks 1, 2, 9 and 10.
+fn check_step(
+    plant: Plant,
+    fair: &[u64],
+    label: &[u16],
+    next: &[u64],
+    rule: Rule,
+    live: Pairs,
+    monitor: Monitor,
+    event: Event,
+) -> Outcome
+    ensures { λ r. ⌜ r ≡ caughtOf plant (now (fair .entry)) (now (label .entry)) (now (next .entry)) rule live monitor event ⌝ }
+{
+    let keeps = monitor.keeps;
+    let breaks = monitor.breaks;
+    let both = keeps.join(breaks);
+    let outcome = check_held(plant, fair, label, next, rule, &live.words, &both.words);
+    match outcome {
+        Outcome::Refused(refusal) => Outcome::Refused(refusal),
+        Outcome::Accepted => {
+            if log::is_legal(event, plant.props) {
+                return Outcome::Accepted;
+            }
+            Outcome::Refused(Refusal::at(Kind::Event, 0))
+        }
+    }
+}
+
+// One event more. The table and the rule are worked out anew, so a step needs nothing but what it is handed.
+pub fn step(
+    plant: Plant,
+    fair: &[u64],
+    label: &[u16],
+    next: &[u64],
+    rule: Rule,
+    live: Pairs,
+    monitor: Monitor,
+    event: Event,
+) -> Watched
+    ensures { λ r. ⌜ r ≡ stepOf plant (now (fair .entry)) (now (label .entry)) (now (next .entry)) rule live monitor event ⌝ }
+{
+    let outcome = check_step(plant, fair, label, next, rule, live, monitor, event);
+    match outcome {
+        Outcome::Refused(refusal) => Watched {
+            answer: Answer::Refused(refusal),
+            monitor,
+        },
+        Outcome::Accepted => {
+            let stepped = sides::stepped(plant.start, label, next, rule, live, monitor, event);
+            Watched {
+                answer: lamp(stepped),
+                monitor: stepped,
+            }
+        }
+    }
+}
