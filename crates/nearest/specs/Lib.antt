@@ -1,0 +1,4 @@
+pub mod Graph
+pub mod Ranking
+pub mod Scan
+pub mod Search

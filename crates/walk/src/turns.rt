@@ -1,0 +1,114 @@
+// The loop: by way of each debt, and back to where it began.
+use crate::legs::Leg;
+use crate::legs::alone;
+use crate::legs::some_pair;
+use crate::legs::write_leg;
+use nearest::Near;
+use sweeps::rounds::goal;
+ghost use mathlib.Core.Path.{_≡_};
+ghost use mathlib.Core.Bool.{So};
+ghost use Prim.Native.Nat.{_+_, _≤_};
+ghost use lib.ListN.{length};
+ghost use Rattle.graphs.specs.Fair.{Fair};
+ghost use Rattle.model.specs.Sets.{nodesOf};
+ghost use Rattle.nearest.specs.Graph.{movesOf};
+ghost use Rattle.nearest.specs.Ranking.{rankOf};
+ghost use Rattle.walk.specs.Debts.{debtsTo};
+ghost use Rattle.walk.specs.Legs.{Going, Turned};
+
+// Writes the walk from q by way of each debt.
+fn write_legs(
+    next: &[u64],
+    leave: &[u64; 1024],
+    enter: &[u64; 1024],
+    count: usize,
+    fair: &[u64],
+    settled: &[u64; 384],
+    parts: usize,
+    live: &[u64; 64],
+    q: usize,
+    out: &mut [u8],
+) -> Leg
+    requires { ⌜ (count ≤ 64) × (parts ≤ 6) × (length (now fair) ≤ 4) × (length (now live) ≡ 64) × (40950 ≤ length (now out)) ⌝ }
+    requires fair { ⌜ Fair (movesOf (now next) (now leave) (now enter) count)
+        (debtsTo (now fair) count (now settled) (length (now fair) + parts)) (nodesOf (now live)) ⌝ }
+    requires inside { ⌜ So (nodesOf (now live) q) ⌝ }
+    ensures { λ r. ⌜ Going (movesOf (now (next .entry)) (now (leave .entry)) (now (enter .entry)) count)
+        (debtsTo (now (fair .entry)) count (now (settled .entry)) (length (now (fair .entry)) + parts)) (nodesOf (now (live .entry)))
+        q (r .end) (now (out .entry)) (now (out .exit)) (r .at) (length (now (fair .entry)) + parts) ⌝ }
+{
+    let mut a = q;
+    let mut at = 0;
+    for k in 0..fair.len() + parts {
+        let debt = goal(fair, count, settled, k);
+        let near = nearest::nearest(next, leave, enter, count, live, &debt.words);
+        let leg = write_leg(next, leave, enter, count, near, a, out, at);
+        a = leg.end;
+        at = leg.at;
+    }
+    Leg { end: a, at }
+}
+
+// The loop found: where it begins, the way there, and its length.
+pub struct Turn {
+    pub knot: usize,
+    pub length: usize,
+    pub back: Near,
+}
+
+// Writes a loop that is reached from x and meets every debt. Where the way by the debts does not lead back to where it began, it
+// began too early: less is reached from its end.
+pub fn write_loop(
+    next: &[u64],
+    leave: &[u64; 1024],
+    enter: &[u64; 1024],
+    count: usize,
+    fair: &[u64],
+    settled: &[u64; 384],
+    parts: usize,
+    live: &[u64; 64],
+    x: usize,
+    out: &mut [u8],
+) -> Turn
+    requires { ⌜ (count ≤ 64) × (parts ≤ 6) × (length (now fair) ≤ 4) × (length (now live) ≡ 64) × (45056 ≤ length (now out)) ⌝ }
+    requires fair { ⌜ Fair (movesOf (now next) (now leave) (now enter) count)
+        (debtsTo (now fair) count (now settled) (length (now fair) + parts)) (nodesOf (now live)) ⌝ }
+    requires inside { ⌜ So (nodesOf (now live) x) ⌝ }
+    ensures { λ r. ⌜ Turned (movesOf (now (next .entry)) (now (leave .entry)) (now (enter .entry)) count)
+        (debtsTo (now (fair .entry)) count (now (settled .entry)) (length (now (fair .entry)) + parts)) (nodesOf (now (live .entry)))
+        x (r .knot) (nodesOf (r .back .words)) (rankOf (r .back .ranks)) (now (out .exit)) (r .length) ⌝ }
+{
+    let mut q = x;
+    loop {
+        let legs = write_legs(
+            next,
+            leave,
+            enter,
+            count,
+            fair,
+            settled,
+            parts,
+            live,
+            q,
+            out,
+        );
+        let here = alone(q);
+        let back = nearest::nearest(next, leave, enter, count, live, &here.words);
+        let a = legs.end;
+        let at = legs.at;
+        let ways = nearest::onward(next, leave, enter, count, &back.words, a);
+        if ways.is_empty() {
+            let on = nearest::onward(next, leave, enter, count, live, a);
+            q = some_pair(&on.words);
+        } else {
+            out[at] = (a % 64) as u8;
+            let y = some_pair(&ways.words);
+            let last = write_leg(next, leave, enter, count, back, y, out, at + 1);
+            break Turn {
+                knot: q,
+                length: last.at,
+                back,
+            };
+        }
+    }
+}
