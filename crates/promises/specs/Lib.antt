@@ -1,0 +1,5 @@
+pub mod Watching
+pub mod Demand
+pub mod Marked
+pub mod Laws
+pub mod Unique
