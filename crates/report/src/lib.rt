@@ -1,0 +1,107 @@
+// The program's lines of output. A line grows text by text: `Put` says what each text makes of it, and `puts` (proofs/Puts.antt) that two of them are one.
+use answers::Lamp;
+use answers::Refusal;
+use answers::Verdict;
+ghost use mathlib.Core.Path.{_≡_};
+ghost use Prim.Native.Nat.{_+_, _≤_};
+ghost use lib.ListN.{length};
+ghost use Rattle.io.specs.Counts.{Counts};
+ghost use Rattle.report.specs.Text.{decimal, word, shownText, refusedText, startText, lampText};
+ghost use Rattle.report.specs.Line.{Put, lineOf};
+
+// A text of `len` bytes, and zeros behind it.
+pub struct Line {
+    pub len: usize,
+    pub bytes: [u8; 70],
+}
+
+impl Line {
+    pub const EMPTY: Line = Line {
+        len: 0,
+        bytes: [0; 70],
+    };
+}
+
+fn put(line: Line, text: &[u8]) -> Line
+    requires { ⌜ line .len + length (now text) ≤ 70 ⌝ }
+    ensures { λ r. ⌜ Put line (now (text .entry)) r ⌝ }
+{
+    let at = line.len;
+    let mut bytes = line.bytes;
+    let tail = &mut bytes[at..];
+    bytes::copy(text, tail);
+    Line {
+        len: at + text.len(),
+        bytes,
+    }
+}
+
+fn put_number(line: Line, n: u64) -> Line
+    requires { ⌜ line .len + 20 ≤ 70 ⌝ }
+    ensures text { λ r. ⌜ Put line (decimal n) r ⌝ }
+    ensures bound { λ r. ⌜ r .len ≤ line .len + 20 ⌝ }
+{
+    let mut text = [0u8; 20];
+    let k = io::decimal(n, &mut text);
+    put(line, &text[..k])
+}
+
+fn put_word(line: Line, verdict: Verdict) -> Line
+    requires { ⌜ line .len + 12 ≤ 70 ⌝ }
+    ensures text { λ r. ⌜ Put line (word verdict) r ⌝ }
+    ensures bound { λ r. ⌜ r .len ≤ line .len + 12 ⌝ }
+{
+    match verdict {
+        Verdict::Inconclusive => put(line, b"inconclusive"),
+        Verdict::True => put(line, b"true"),
+        Verdict::False => put(line, b"false"),
+        Verdict::OutOfModel => put(line, b"out-of-model"),
+    }
+}
+
+// ` verdict=WORD left=L` and LF: at most 48 bytes.
+fn put_lamp(line: Line, lamp: Lamp) -> Line
+    requires { ⌜ line .len + 48 ≤ 70 ⌝ }
+    ensures text { λ r. ⌜ Put line (shownText lamp) r ⌝ }
+{
+    let verdict = lamp.verdict;
+    let a = put(line, b" verdict=");
+    let b = put_word(a, verdict);
+    let c = put(b, b" left=");
+    let d = put_number(c, lamp.left as u64);
+    put(d, b"\n")
+}
+
+// `refused=N place=P` and LF: at most 56 bytes.
+pub fn refused_line(refusal: Refusal) -> Line
+    ensures text { λ r. ⌜ r ≡ lineOf (refusedText refusal) ⌝ }
+    ensures room { λ r. ⌜ Counts (r .len) (r .bytes) ⌝ }
+{
+    let kind = refusal.kind;
+    let number = kind.number() as u64;
+    let place = refusal.place as u64;
+    let a = put(Line::EMPTY, b"refused=");
+    let b = put_number(a, number);
+    let c = put(b, b" place=");
+    let d = put_number(c, place);
+    put(d, b"\n")
+}
+
+// `start verdict=WORD left=L` and LF: at most 53 bytes.
+pub fn start_line(lamp: Lamp) -> Line
+    ensures text { λ r. ⌜ r ≡ lineOf (startText lamp) ⌝ }
+    ensures room { λ r. ⌜ Counts (r .len) (r .bytes) ⌝ }
+{
+    let a = put(Line::EMPTY, b"start");
+    put_lamp(a, lamp)
+}
+
+// `n=N verdict=WORD left=L` and LF: at most 70 bytes.
+pub fn lamp_line(n: usize, lamp: Lamp) -> Line
+    ensures text { λ r. ⌜ r ≡ lineOf (lampText n lamp) ⌝ }
+    ensures room { λ r. ⌜ Counts (r .len) (r .bytes) ⌝ }
+{
+    let a = put(Line::EMPTY, b"n=");
+    let b = put_number(a, n as u64);
+    put_lamp(b, lamp)
+}

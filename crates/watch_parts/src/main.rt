@@ -1,0 +1,4 @@
+// Seven temporal operators: 8.
+fn main() {
+    program::run();
+}
