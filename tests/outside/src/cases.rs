@@ -1,0 +1,536 @@
+//! Seeded cases: plants, rules and logs, good and damaged, and what may stand in the place of a file.
+
+use crate::dice::Dice;
+use crate::log::Event;
+use crate::pairs::{Graph, Monitor, Verdict};
+use crate::plant::Plant;
+use crate::rule::Rule;
+use crate::watch::{File, Files};
+
+pub struct Case {
+    pub kind: &'static str,
+    pub files: Files,
+    /// The output as the paper gives it, where it does.
+    pub given: Option<&'static str>,
+}
+
+fn mask(states: usize) -> u64 {
+    if states == 64 { u64::MAX } else { (1 << states) - 1 }
+}
+
+/// A set of states in which each occurs with this chance.
+fn set(dice: &mut Dice, states: usize, percent: usize) -> u64 {
+    (0..states).fold(0, |s, k| s | (dice.chance(percent) as u64) << k)
+}
+
+/// A plant, most often one that has a run.
+pub fn plant(dice: &mut Dice, states: usize) -> Plant {
+    let mut plant = any_plant(dice, states);
+    for _ in 0..8 {
+        if Monitor::open(&Graph::new(&plant, &Rule::Is(true))).verdict() == Verdict::True || dice.chance(10) {
+            break;
+        }
+        plant = any_plant(dice, states);
+    }
+    plant
+}
+
+fn any_plant(dice: &mut Dice, states: usize) -> Plant {
+    let props = *dice.pick(&[1, 2, 2, 3, 3, 4, 5, 8]);
+    let style = dice.below(4);
+    let share = *dice.pick(&[15, 30, 50, 90]);
+    let dead_ends = dice.chance(15);
+    let mut next = Vec::new();
+    for s in 0..states {
+        let mut n = match style {
+            0 => 1 << dice.below(states) | 1 << dice.below(states),
+            1 => 1 << ((s + 1) % states) | set(dice, states, 10),
+            2 => 1 << s | 1 << dice.below(states),
+            _ => set(dice, states, share),
+        };
+        if dead_ends && dice.chance(30) {
+            n = 0;
+        }
+        next.push(n);
+    }
+    let start = if dice.chance(60) { 1 << dice.below(states) } else { set(dice, states, share) };
+    let just = *dice.pick(&[0, 0, 1, 1, 2, 3, 4]);
+    let thin = *dice.pick(&[20, 40, 80]);
+    let fair = (0..just).map(|_| if dice.chance(40) { 1 << dice.below(states) } else { set(dice, states, thin) }).collect();
+    let label = (0..states).map(|_| dice.below(1 << props) as u8).collect();
+    Plant { props, states, start, fair, label, next }
+}
+
+/// What a rule's text may still use up.
+struct Purse {
+    nodes: i32,
+    parts: i32,
+    spaces: usize,
+    props: usize,
+}
+
+impl Purse {
+    fn gap(&self, dice: &mut Dice, text: &mut String) {
+        while dice.chance(self.spaces) {
+            text.push(' ');
+        }
+    }
+
+    fn operand(&mut self, dice: &mut Dice, text: &mut String, depth: usize) {
+        while self.nodes > 2 && dice.chance(40) {
+            let op = if self.parts > 0 { *dice.pick(&['!', 'X', 'F', 'G']) } else { '!' };
+            self.parts -= (op != '!') as i32;
+            self.nodes -= 1;
+            self.gap(dice, text);
+            text.push(op);
+        }
+        self.gap(dice, text);
+        if depth > 0 && dice.chance(45) {
+            text.push('(');
+            self.text(dice, text, depth - 1);
+            text.push(')');
+        } else {
+            self.nodes -= 1;
+            match dice.below(14) {
+                0 => text.push('0'),
+                1 => text.push('1'),
+                _ => *text += &format!("p{}", dice.below(self.props)),
+            }
+        }
+        self.gap(dice, text);
+    }
+
+    fn text(&mut self, dice: &mut Dice, text: &mut String, depth: usize) {
+        self.operand(dice, text, depth);
+        while self.nodes > 3 && dice.chance(50) {
+            let op = if self.parts > 0 { *dice.pick(&["U", "R", "&", "|", "->", "U", "R"]) } else { *dice.pick(&["&", "|", "->"]) };
+            self.parts -= (op == "U" || op == "R") as i32;
+            self.nodes -= 1;
+            *text += op;
+            self.operand(dice, text, depth);
+        }
+    }
+}
+
+const PATTERNS: &[&str] = &[
+    "G(a->Fb)", "aUb", "GFa", "FGa", "G!a", "Fa", "aR!b", "G(a->XXb)", "GFa->GFb", "!(aUb)", "G(a->(!bUc))", "F(a&Xb)", "(aUb)R(bUc)",
+    "Ga|Fb", "XXXa", "G(a->X(bRc))", "FGa&GFb", "aRbRc", "aUbUc", "G(a|X0)", "X1", "!X!a", "F(aUb)&!GFc", "G(a->Fb)&G(b->Fc)", "(GFa|FGb)->Fc",
+];
+
+/// A rule's text, most often one that the plant alone does not decide, if the plant is small.
+fn open_rule(dice: &mut Dice, plant: &Plant, parts: usize) -> String {
+    let mut text = rule(dice, plant.props, parts);
+    for _ in 0..6 {
+        let read = crate::rule::read(text.as_bytes(), plant.props);
+        let decided = read.map_or(false, |r| Monitor::open(&Graph::new(plant, &r)).verdict() != Verdict::Inconclusive);
+        if !decided || plant.states > 9 || dice.chance(15) {
+            break;
+        }
+        text = rule(dice, plant.props, parts);
+    }
+    text
+}
+
+pub fn rule(dice: &mut Dice, props: usize, parts: usize) -> String {
+    if dice.chance(30) {
+        let pattern = dice.pick(PATTERNS).to_string();
+        let pattern = "abc".chars().fold(pattern, |t, c| t.replace(c, &format!("p{}", dice.below(props))));
+        if pattern.bytes().filter(|b| b"XFGUR".contains(b)).count() <= parts {
+            return pattern;
+        }
+    }
+    let nodes = *dice.pick(&[4, 8, 12, 20, 32]);
+    let mut purse = Purse { nodes, parts: parts as i32, spaces: *dice.pick(&[0, 0, 10, 40]), props };
+    let mut text = String::new();
+    purse.text(dice, &mut text, 3);
+    text
+}
+
+fn event_at(dice: &mut Dice, plant: &Plant, s: usize, sight: usize, new: bool) -> Event {
+    let see = (0..plant.props).fold(0u8, |m, p| m | (dice.chance(sight) as u8) << p);
+    Event { see, val: plant.label[s] & see, new }
+}
+
+/// A log that follows a walk through the plant, with some restarts and, now and then, a sight that does not fit.
+pub fn log(dice: &mut Dice, plant: &Plant, length: usize) -> Vec<Event> {
+    let sight = *dice.pick(&[20, 40, 60, 100]);
+    let restarts = *dice.pick(&[0, 0, 10, 30]);
+    let noise = *dice.pick(&[0, 0, 0, 3, 15]);
+    let graph = Graph::new(plant, &Rule::Is(true));
+    let starts: Vec<usize> = (0..plant.states).filter(|s| plant.starts(*s) && graph.live[*s]).collect();
+    let begin = |dice: &mut Dice| if starts.is_empty() { 0 } else { *dice.pick(&starts) };
+    let mut s = begin(dice);
+    let mut events = Vec::new();
+    for _ in 0..length {
+        let new = dice.chance(restarts);
+        if new && dice.chance(70) {
+            s = begin(dice);
+        }
+        let mut event = event_at(dice, plant, s, sight, new);
+        if dice.chance(noise) {
+            event.val ^= event.see & dice.word() as u8;
+        }
+        events.push(event);
+        let ways: Vec<usize> = (0..plant.states).filter(|t| plant.moves(s, *t) && graph.live[*t]).collect();
+        s = if ways.is_empty() { s } else { *dice.pick(&ways) };
+    }
+    events
+}
+
+fn log_text(events: &[Event]) -> Vec<u8> {
+    events.iter().map(|e| e.text()).collect::<String>().into_bytes()
+}
+
+/// Damages a text in one of the ways in which texts are damaged.
+fn damage(dice: &mut Dice, text: &mut Vec<u8>, alphabet: &[u8]) {
+    let near = dice.chance(50);
+    let spot = |dice: &mut Dice, n: usize| if near { dice.below(n.min(60)) } else { dice.below(n) };
+    let byte = if dice.chance(90) { *dice.pick(alphabet) } else { dice.word() as u8 };
+    let n = text.len();
+    match dice.below(10) {
+        0 | 1 | 2 if n > 0 => {
+            let at = spot(dice, n);
+            text[at] = byte;
+        }
+        3 | 4 => {
+            let at = spot(dice, n + 1);
+            text.insert(at, byte);
+        }
+        5 | 6 if n > 0 => {
+            let at = spot(dice, n);
+            text.remove(at);
+        }
+        7 => text.truncate(dice.below(n + 1)),
+        8 => text.push(byte),
+        _ if n > 1 => {
+            let (a, b) = (dice.below(n), dice.below(n));
+            text.swap(a, b);
+        }
+        _ => text.push(b'\n'),
+    }
+}
+
+fn good(dice: &mut Dice, states: usize, parts: usize, length: usize) -> (Plant, String, Vec<Event>) {
+    let plant = plant(dice, states);
+    let rule = open_rule(dice, &plant, parts);
+    let log = log(dice, &plant, length);
+    (plant, rule, log)
+}
+
+fn files(plant: &Plant, rule: &str, log: &[Event]) -> Files {
+    Files { plant: File::Bytes(plant.text()), rule: File::Bytes(rule.as_bytes().to_vec()), log: File::Bytes(log_text(log)) }
+}
+
+fn bytes(file: &mut File) -> &mut Vec<u8> {
+    match file {
+        File::Bytes(bytes) => bytes,
+        _ => unreachable!(),
+    }
+}
+
+/// A case whose texts are good.
+fn plain(dice: &mut Dice) -> Files {
+    let (states, parts) = *dice.pick(&[(1, 6), (2, 5), (3, 6), (4, 3), (5, 6), (7, 4), (9, 3), (16, 3), (24, 2), (40, 2), (64, 1)]);
+    let length = *dice.pick(&[0, 1, 2, 5, 12, 30]);
+    let (plant, rule, log) = good(dice, states, parts, length);
+    let mut files = files(&plant, &rule, &log);
+    if dice.chance(40) {
+        bytes(&mut files.rule).push(b'\n');
+    }
+    files
+}
+
+fn small(dice: &mut Dice) -> Files {
+    let states = dice.from(1, 4);
+    let length = dice.from(0, 8);
+    let (plant, rule, log) = good(dice, states, 3, length);
+    files(&plant, &rule, &log)
+}
+
+/// Operators of all levels in a row, with few parentheses, on a plant that can do anything: how a rule groups shows in its verdicts.
+fn chains(dice: &mut Dice) -> Files {
+    let props = dice.from(1, 3);
+    let states = 1usize << props;
+    let plant = Plant { props, states, start: mask(states), fair: vec![], label: (0..states as u8).collect(), next: vec![mask(states); states] };
+    let mut purse = Purse { nodes: 11, parts: 4, spaces: *dice.pick(&[0, 20]), props };
+    let mut text = String::new();
+    purse.operand(dice, &mut text, 0);
+    for _ in 0..dice.from(2, 4) {
+        let op = if purse.parts > 0 { *dice.pick(&["U", "R", "U", "R", "&", "|", "->"]) } else { *dice.pick(&["&", "|", "->"]) };
+        purse.parts -= (op == "U" || op == "R") as i32;
+        text += op;
+        purse.operand(dice, &mut text, 0);
+    }
+    let length = dice.from(2, 8);
+    let events: Vec<Event> = (0..length).map(|_| { let s = dice.below(states); event_at(dice, &plant, s, 85, false) }).collect();
+    files(&plant, &text, &events)
+}
+
+/// Many states together with many temporal operators.
+fn large(dice: &mut Dice) -> Files {
+    let states = *dice.pick(&[48, 63, 64]);
+    let parts = dice.from(3, 6);
+    let length = dice.from(0, 25);
+    let (plant, rule, log) = good(dice, states, parts, length);
+    files(&plant, &rule, &log)
+}
+
+fn damaged_plant(dice: &mut Dice) -> Files {
+    let states = *dice.pick(&[1, 2, 3, 9, 10, 11, 63, 64]);
+    let (mut plant, rule, log) = good(dice, states, 1, 2);
+    // A bit beyond the counts, sometimes together with a damaged byte behind it.
+    let beyond = dice.chance(50);
+    if beyond {
+        let bit = 1u64.checked_shl(dice.from(states, 64) as u32).unwrap_or(0);
+        let s = dice.below(states);
+        match dice.below(4) {
+            0 => plant.start |= bit,
+            1 => plant.next[s] |= bit,
+            2 => plant.fair = vec![1, bit | 1],
+            _ => plant.label[s] |= (1u16 << dice.from(plant.props, 8)) as u8,
+        }
+    }
+    let mut files = files(&plant, &rule, &log);
+    let text = bytes(&mut files.plant);
+    match dice.below(8) {
+        _ if beyond && dice.chance(60) => {}
+        0 => {
+            let (key, other) = *dice.pick(&[("props=", "props=9"), ("props=", "props=0"), ("props=", "props=00"), ("states=", "states=0"), ("states=", "states=65"), ("states=", "states=7"), ("just=", "just=5"), ("just=", "just=04")]);
+            let line = String::from_utf8(text.clone()).unwrap();
+            let at = line.find(key).unwrap();
+            let end = at + line[at..].find('\n').unwrap();
+            text.splice(at..end, other.bytes());
+        }
+        1 => text.retain(|b| *b != b'\n'),
+        2 => *text = text.iter().flat_map(|b| if *b == b'\n' { vec![b'\r', b'\n'] } else { vec![*b] }).collect(),
+        3 => text.make_ascii_uppercase(),
+        4 if dice.chance(40) => {
+            text.pop();
+        }
+        4 => {
+            let upper: Vec<usize> = (0..text.len()).filter(|i| (b'a'..=b'f').contains(&text[*i]) && i % 3 == 0).collect();
+            upper.iter().for_each(|i| text[*i].make_ascii_uppercase());
+        }
+        5 => {}
+        _ => damage(dice, text, b"0123456789abcdefABCDEF=\n\r xlnj"),
+    }
+    files
+}
+
+fn damaged_rule(dice: &mut Dice) -> Files {
+    let parts = dice.from(1, 8);
+    let (plant, _, log) = good(dice, 3, 1, 2);
+    let props = if dice.chance(30) { 8 } else { plant.props };
+    let rule = rule(dice, props, parts);
+    let mut files = files(&plant, &rule, &log);
+    let text = bytes(&mut files.rule);
+    for _ in 0..dice.below(3) {
+        damage(dice, text, b"pppXFGUR!&|->()0123456789 \t\n-p");
+    }
+    if dice.chance(5) {
+        let gaps: Vec<usize> = (1..text.len()).filter(|i| text[i - 1] == b'p' || text[i - 1] == b'-').collect();
+        gaps.iter().take(1).for_each(|i| text.insert(*i, b' '));
+    }
+    if dice.chance(30) {
+        text.push(b'\n');
+    }
+    files
+}
+
+/// Rules of about 32 operators and leaves, about 6 of them temporal.
+fn rule_at_limits(dice: &mut Dice) -> Files {
+    let (plant, _, log) = good(dice, 2, 1, 2);
+    let nodes = dice.from(28, 36);
+    let parts = dice.from(4, 8).min(nodes);
+    let mut text = String::from("p0");
+    let mut temporal = 0;
+    let mut count = 1;
+    while count < nodes {
+        let needed = parts - temporal;
+        let wants = needed > 0 && (nodes - count <= needed || dice.chance(30));
+        if wants {
+            text = format!("{}{}", dice.pick(&["X", "F", "G"]), if text.len() > 2 { format!("({})", text) } else { text });
+            temporal += 1;
+            count += 1;
+        } else if dice.chance(40) && count + 2 <= nodes {
+            text = format!("{}{}{}", text, dice.pick(&["&", "|", "->"]), dice.pick(&["p0", "(1)", " 0 ", "p7"]));
+            count += 2;
+        } else {
+            text = format!("!({})", text);
+            count += 1;
+        }
+    }
+    files(&plant, &text, &log)
+}
+
+fn damaged_log(dice: &mut Dice) -> Files {
+    let length = dice.from(0, 12);
+    let (plant, rule, mut log) = good(dice, 3, 2, length);
+    // Events that are of the form, and yet refused.
+    if dice.chance(50) && !log.is_empty() {
+        let k = dice.below(log.len());
+        match dice.below(3) {
+            0 => log[k].see |= (1u16 << dice.from(plant.props, 8)) as u8,
+            1 => log[k].val |= !log[k].see & dice.word() as u8,
+            _ => log[k] = Event { see: dice.word() as u8, val: dice.word() as u8, new: false },
+        }
+    }
+    let mut files = files(&plant, &rule, &log);
+    let text = bytes(&mut files.log);
+    if dice.chance(15) {
+        text.pop();
+    } else if dice.chance(60) {
+        damage(dice, text, b"0123456789abcdefABF= \n\rsevalnw");
+    }
+    files
+}
+
+/// Texts of exactly the sizes at which something changes.
+fn sizes(dice: &mut Dice) -> Files {
+    let (plant, rule, log) = good(dice, 2, 2, 3);
+    let mut files = files(&plant, &rule, &log);
+    let pad = |n: usize| { let mut t = b"p0".to_vec(); t.resize(n, b' '); t };
+    let line = log_text(&[Event { see: 0, val: 0, new: dice.chance(50) }]);
+    match dice.below(16) {
+        0 => *bytes(&mut files.rule) = pad(512),
+        1 => *bytes(&mut files.rule) = [pad(512), vec![b'\n']].concat(),
+        2 => *bytes(&mut files.rule) = pad(513),
+        3 => *bytes(&mut files.rule) = [pad(511), vec![b'\n', b'\n']].concat(),
+        4 => *bytes(&mut files.rule) = [pad(513), vec![b'\n']].concat(),
+        5 => *bytes(&mut files.rule) = vec![b'('; *dice.pick(&[511, 512, 512, 513, 514])],
+        6 => *bytes(&mut files.rule) = vec![b'x'; *dice.pick(&[512, 513, 514])],
+        7 => *bytes(&mut files.rule) = [vec![b'('; 255], b"p0".to_vec(), vec![b')'; dice.from(253, 256)]].concat(),
+        8 => *bytes(&mut files.log) = line.repeat(3276),
+        9 => *bytes(&mut files.log) = [line.repeat(3276), vec![b's']].concat(),
+        10 => {
+            let text = bytes(&mut files.log);
+            *text = line.repeat(3276);
+            let cut = dice.below(25);
+            if dice.chance(50) { text.truncate(65520 - cut) } else { text[65519 - cut] = b'x' }
+        }
+        11 => {
+            // The last event of the longest log is refused.
+            let text = bytes(&mut files.log);
+            *text = line.repeat(3275);
+            text.extend(b"see=00 val=01 new=0\n");
+        }
+        12 | 13 => {
+            let mut largest = self::plant(dice, 64);
+            largest.props = 8;
+            largest.fair = (0..4).map(|_| dice.word()).collect();
+            let text = bytes(&mut files.plant);
+            *text = largest.text();
+            match dice.below(5) {
+                0 => text.push(b'\n'),
+                1 => text[2347] = b'x',
+                2 => text.truncate(2347),
+                _ => {}
+            }
+        }
+        14 => *bytes(&mut files.plant) = vec![b'p'; dice.from(2347, 2350)],
+        _ => {
+            let n = *dice.pick(&[0, 1, 5000, 70000]);
+            let file = match dice.below(3) { 0 => &mut files.plant, 1 => &mut files.rule, _ => &mut files.log };
+            *bytes(file) = vec![*dice.pick(&[b'\n', 0, b'p', 255]); n];
+        }
+    }
+    files
+}
+
+/// Something else than a file that can be read.
+fn odd_files(dice: &mut Dice) -> Files {
+    let mut files = match dice.below(4) {
+        0 => damaged_plant(dice),
+        1 => damaged_rule(dice),
+        2 => damaged_log(dice),
+        _ => small(dice),
+    };
+    for _ in 0..dice.from(1, 2) {
+        let file = match dice.below(3) { 0 => &mut files.plant, 1 => &mut files.rule, _ => &mut files.log };
+        let old = match file { File::Bytes(b) => b.clone(), _ => vec![] };
+        *file = match dice.below(6) {
+            0 | 1 => File::Missing,
+            2 => File::Folder,
+            3 => File::Dangling,
+            4 => File::Failing,
+            _ => File::Linked(old),
+        };
+    }
+    files
+}
+
+/// A file that this user may not open.
+pub fn forbidden(number: usize) -> Case {
+    let mut dice = Dice::new(77, number as u64);
+    let mut files = small(&mut dice);
+    let file = match number % 4 { 0 => return Case { kind: "as another user", files, given: None }, 1 => &mut files.plant, 2 => &mut files.rule, _ => &mut files.log };
+    *file = File::Forbidden(bytes(file).clone());
+    Case { kind: "forbidden", files, given: None }
+}
+
+const W: &str = "props=2\nstates=3\nstart=0000000000000001\njust=0\nlabel0=00\nnext0=0000000000000003\nlabel1=01\nnext1=0000000000000006\nlabel2=02\nnext2=0000000000000005\n";
+const W_FAIR: &str = "props=2\nstates=3\nstart=0000000000000001\njust=1\nj0=0000000000000005\nlabel0=00\nnext0=0000000000000003\nlabel1=01\nnext1=0000000000000006\nlabel2=02\nnext2=0000000000000005\n";
+const W_DEAD: &str = "props=2\nstates=3\nstart=0000000000000001\njust=0\nlabel0=00\nnext0=0000000000000000\nlabel1=01\nnext1=0000000000000000\nlabel2=02\nnext2=0000000000000000\n";
+
+/// What the paper itself works out: M1 to M10, the program's example, and the rule texts it names.
+pub const GIVEN: &[(&str, &str, &str, &str)] = &[
+    (W, "1", "", "start verdict=true left=1\n"),
+    (W, "G(p0->Fp1)", "", "start verdict=inconclusive left=1\n"),
+    (W_FAIR, "G(p0->Fp1)", "", "start verdict=true left=1\n"),
+    (W, "Fp1", "see=03 val=00 new=0\nsee=03 val=01 new=0\nsee=03 val=02 new=0\n", "start verdict=inconclusive left=1\nn=0 verdict=inconclusive left=1\nn=1 verdict=inconclusive left=1\nn=2 verdict=true left=1\n"),
+    (W, "G!p1", "see=03 val=00 new=0\nsee=03 val=01 new=0\nsee=03 val=02 new=0\n", "start verdict=inconclusive left=1\nn=0 verdict=inconclusive left=1\nn=1 verdict=inconclusive left=1\nn=2 verdict=false left=1\n"),
+    (W, "p0R!p1", "", "start verdict=true left=1\n"),
+    (W, "Xp0", "see=03 val=00 new=0\nsee=03 val=00 new=0\n", "start verdict=inconclusive left=1\nn=0 verdict=inconclusive left=1\nn=1 verdict=false left=1\n"),
+    (W, "Fp1", "see=03 val=00 new=0\nsee=03 val=03 new=0\n", "start verdict=inconclusive left=1\nn=0 verdict=inconclusive left=1\nn=1 verdict=out-of-model left=0\n"),
+    (W, "Fp1", "see=03 val=00 new=0\nsee=03 val=03 new=0\nsee=03 val=00 new=1\n", "start verdict=inconclusive left=1\nn=0 verdict=inconclusive left=1\nn=1 verdict=out-of-model left=0\nn=2 verdict=inconclusive left=1\n"),
+    (W_DEAD, "1", "", "start verdict=out-of-model left=0\n"),
+    (W, "Fp0", "see=03 val=00 new=0\nsee=00 val=00 new=0\nsee=02 val=02 new=0\n", "start verdict=inconclusive left=1\nn=0 verdict=inconclusive left=1\nn=1 verdict=inconclusive left=2\nn=2 verdict=true left=1\n"),
+    (W, "", "", "refused=5 place=0\n"),
+    (W, "p0 p1", "", "refused=5 place=3\n"),
+    (W, "p8", "", "refused=5 place=1\n"),
+    (W, "p0-", "", "refused=5 place=3\n"),
+    (W, "((p0)", "", "refused=5 place=5\n"),
+    (W, "!!!!!!!!!!!!!!!!!!!!!!!!!!!!!!!p0", "", "start verdict=true left=1\n"),
+    (W, "!!!!!!!!!!!!!!!!!!!!!!!!!!!!!!!!p0", "", "refused=7 place=0\n"),
+    (W, "XXXXXXp0", "", "start verdict=inconclusive left=1\n"),
+    (W, "XXXXXXXp0", "", "refused=8 place=0\n"),
+];
+
+/// Case `number` of a seed; the first ones are the paper's own.
+pub fn case(seed: u64, number: usize) -> Case {
+    if let Some((plant, rule, log, out)) = GIVEN.get(number) {
+        let file = |t: &str| File::Bytes(t.as_bytes().to_vec());
+        return Case { kind: "given by the paper", files: Files { plant: file(plant), rule: file(rule), log: file(log) }, given: Some(out) };
+    }
+    let mut dice = Dice::new(seed, number as u64);
+    let (kind, files) = match number % 40 {
+        0..=9 => ("plain", plain(&mut dice)),
+        10..=14 => ("small", small(&mut dice)),
+        15..=19 => ("chains", chains(&mut dice)),
+        20..=23 => ("damaged plant", damaged_plant(&mut dice)),
+        24..=28 => ("damaged rule", damaged_rule(&mut dice)),
+        29 | 30 => ("rule at limits", rule_at_limits(&mut dice)),
+        31..=33 => ("damaged log", damaged_log(&mut dice)),
+        34..=36 => ("sizes", sizes(&mut dice)),
+        37 | 38 => ("odd files", odd_files(&mut dice)),
+        _ if number % 200 == 39 => ("large", large(&mut dice)),
+        _ => ("plain", plain(&mut dice)),
+    };
+    Case { kind, files, given: None }
+}
+
+/// A plant, rule and log of up to so many states, without restarts.
+pub fn unbroken(dice: &mut Dice, states: usize) -> (Plant, String, Vec<Event>) {
+    let states = dice.from(1, states);
+    let length = dice.from(0, 4);
+    let parts = dice.from(0, 3);
+    let (plant, rule, mut log) = good(dice, states, parts, length);
+    log.iter_mut().for_each(|e| e.new = false);
+    (plant, rule, log)
+}
+
+impl Files {
+    pub fn each(&self) -> [(&'static str, &File); 3] {
+        [("plant.txt", &self.plant), ("rule.txt", &self.rule), ("log.txt", &self.log)]
+    }
+}

@@ -1,0 +1,111 @@
+//! Mistakes that can be planted in our own reading, to see that the cases would find them in a program.
+//! With nothing planted, the rest of this program follows the paper.
+
+use std::cell::Cell;
+
+macro_rules! faults {
+    ($($name:ident: $what:expr,)*) => {
+        #[derive(Clone, Copy, PartialEq, Eq, Debug)]
+        pub enum Fault { $($name),* }
+        pub const ALL: &[(Fault, &str, &str)] = &[$((Fault::$name, stringify!($name), $what)),*];
+    };
+}
+
+faults! {
+    UnseenIsFalse: "a proposition not seen is taken as false",
+    NoFairness: "fairness sets are not asked for",
+    FairnessOnce: "all fairness sets are taken as one",
+    FinallyPutOff: "F and U may be put off for ever",
+    GloballyPutOff: "G and R may be false for ever with no reason",
+    DeadPairsKept: "pairs that no fair loop follows are kept",
+    DeadEndsLive: "a state with no next state begins a run",
+    MoveBeforeFirst: "the table moves before the first event",
+    NoMove: "the state never moves",
+    RestartKeepsPast: "a restart keeps what was seen before",
+    RestartIgnored: "a restart flag does nothing",
+    RestartAnywhere: "a restart begins at any state, not at a starting one",
+    StartAnywhere: "a run begins at any state",
+    OutOfModelSticks: "a restart does not lead out of out-of-model",
+    DecidedSticks: "true and false never become out-of-model",
+    TrueOnNothing: "with no agreeing run the lamp shows true",
+    LeftCountsPairs: "left counts pairs and not states",
+    LeftCountsTwice: "left counts a state once for each set",
+    LeftOfKeeping: "left counts the first set alone",
+    NextIsNow: "X looks at this position",
+    UntilNeedsNoEnd: "U is the weak until",
+    ReleaseSwapped: "R has its sides swapped",
+    ReleaseAtOnce: "R lets go at the very position of its left side",
+    UntilToLeft: "U and R group to the left",
+    ArrowToLeft: "-> groups to the left",
+    UntilLooserThanAnd: "U and R bind looser than &",
+    AndLooserThanOr: "& binds looser than |",
+    PrefixLoose: "a prefix operator takes all that follows it up to & or |",
+    TabIsSpace: "a tab counts as a space",
+    SpaceInProp: "p 0 is read as p0",
+    RulePlaceToken: "a bad rule is refused at the start of a token",
+    RulePlaceEarly: "a rule that stops too soon is refused at its last byte",
+    PropPlaceLast: "the last bad proposition is named, not the first",
+    PropPlaceDigit: "a bad proposition is named by its digit",
+    PropAfterNodes: "7 goes before 6",
+    PartsBeforeNodes: "8 goes before 7",
+    ParenthesesCount: "a pair of parentheses counts as an operator",
+    Nodes31: "31 operators and leaves is the limit",
+    Nodes33: "33 operators and leaves is the limit",
+    Parts5: "5 temporal operators is the limit",
+    Parts7: "7 temporal operators is the limit",
+    RuleLimitPlays: "512 bytes that need more to be a rule are refused by 4",
+    RuleSizeAfterDrop: "513 bytes without a final LF are over the size",
+    DropsTwo: "two final LFs are dropped",
+    DropsNone: "no final LF is dropped",
+    FilesFirst: "all files are read before any is checked",
+    LogLate: "the start line is written before the log's form is checked",
+    EventBeforeForm: "an event is refused before the log's form",
+    EventPlaceZero: "a refused event has place 0",
+    EventPlaceLine: "a refused event has its line's number as place",
+    EventSeeUnchecked: "an event may see a proposition beyond props",
+    EventValUnchecked: "an event may give 1 to a proposition not seen",
+    CountsAreOne: "a count out of range in a text is 1 at 0",
+    BitsBeforeForm: "a bad bit is refused before a bad byte behind it",
+    LabelBitsUnchecked: "label bits are not checked",
+    FairBitsUnchecked: "fairness bits are not checked",
+    NextBitsUnchecked: "next bits are not checked",
+    StartBitsUnchecked: "start bits are not checked",
+    Capitals: "capital hexadecimal digits are taken",
+    TextAfterTable: "bytes after the last line of a table are taken",
+    LastLineOpen: "the last line of a table needs no LF",
+    LogLineOpen: "the last line of a log needs no LF",
+    PlantLimit: "plant.txt may have 2,347 bytes at most",
+    LogLimit: "log.txt may have 65,500 bytes at most",
+    NoPlantLimit: "plant.txt has no size limit",
+    NoLogLimit: "log.txt has no size limit",
+    FolderIsEmpty: "a folder in the place of a file is an empty file",
+    MissingIsEmpty: "a missing log is an empty log",
+    NumbersRestart: "n counts from the last restart",
+    WordUnknown: "inconclusive is written unknown",
+}
+
+thread_local! { static PLANTED: Cell<Option<Fault>> = Cell::new(None); }
+
+/// Is this mistake planted in this thread?
+pub fn is(fault: Fault) -> bool {
+    PLANTED.with(|p| p.get() == Some(fault))
+}
+
+/// Puts back what was planted before, also when the work is given up.
+struct Before(Option<Fault>);
+
+impl Drop for Before {
+    fn drop(&mut self) {
+        PLANTED.with(|p| p.set(self.0));
+    }
+}
+
+/// Runs `work` with the mistake planted.
+pub fn with<T>(fault: Option<Fault>, work: impl FnOnce() -> T) -> T {
+    let _before = Before(PLANTED.with(|p| p.replace(fault)));
+    work()
+}
+
+pub fn named(name: &str) -> Option<Fault> {
+    ALL.iter().find(|f| f.1 == name).map(|f| f.0)
+}

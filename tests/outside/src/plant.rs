@@ -1,0 +1,217 @@
+//! Plant tables and their text form. A text is compared with every table form there is: the place of a refusal is the
+//! length of the longest beginning that some form shares with it.
+
+use crate::faults::{self, Fault};
+use crate::Refusal;
+
+#[derive(Clone, Debug, PartialEq)]
+pub struct Plant {
+    pub props: usize,
+    pub states: usize,
+    pub start: u64,
+    pub fair: Vec<u64>,
+    pub label: Vec<u8>,
+    pub next: Vec<u64>,
+}
+
+/// Stands in a form for any hexadecimal digit; no form has this byte itself.
+const DIGIT: u8 = b'?';
+
+/// The form of all tables with these counts.
+fn form(props: usize, states: usize, just: usize) -> String {
+    let set = "????????????????";
+    let mut text = format!("props={}\nstates={}\nstart={}\njust={}\n", props, states, set, just);
+    for j in 0..just {
+        text += &format!("j{}={}\n", j, set);
+    }
+    for s in 0..states {
+        text += &format!("label{}=??\nnext{}={}\n", s, s, set);
+    }
+    text
+}
+
+struct Form {
+    props: usize,
+    states: usize,
+    just: usize,
+    bytes: Vec<u8>,
+}
+
+fn all_forms() -> Vec<Form> {
+    let mut forms = Vec::new();
+    for props in 1..=8 {
+        for states in 1..=64 {
+            for just in 0..=4 {
+                forms.push(Form { props, states, just, bytes: form(props, states, just).into_bytes() });
+            }
+        }
+    }
+    forms
+}
+
+thread_local! { static FORMS: Vec<Form> = all_forms(); }
+
+fn is_digit(byte: u8) -> bool {
+    byte.is_ascii_digit() || (b'a'..=b'f').contains(&byte) || (faults::is(Fault::Capitals) && (b'A'..=b'F').contains(&byte))
+}
+
+/// How many bytes of the text follow the form.
+fn follows(text: &[u8], form: &[u8]) -> usize {
+    text.iter().zip(form).take_while(|(t, f)| if **f == DIGIT { is_digit(**t) } else { t == f }).count()
+}
+
+pub fn hex(digits: &[u8]) -> u64 {
+    digits.iter().fold(0, |n, d| n * 16 + (*d as char).to_digit(16).expect("a digit") as u64)
+}
+
+fn fill(form: &Form, text: &[u8]) -> Plant {
+    // The digits of the text, gathered field by field: the form says where they stand.
+    let mut fields: Vec<Vec<u8>> = Vec::new();
+    let mut inside = false;
+    for (t, f) in text.iter().zip(&form.bytes) {
+        if *f == DIGIT {
+            if !inside {
+                fields.push(Vec::new());
+            }
+            fields.last_mut().unwrap().push(*t);
+        }
+        inside = *f == DIGIT;
+    }
+    let numbers: Vec<u64> = fields.iter().map(|f| hex(f)).collect();
+    let (sets, table) = numbers.split_at(1 + form.just);
+    Plant {
+        props: form.props,
+        states: form.states,
+        start: sets[0],
+        fair: sets[1..].to_vec(),
+        label: table.iter().step_by(2).map(|n| *n as u8).collect(),
+        next: table.iter().skip(1).step_by(2).cloned().collect(),
+    }
+}
+
+fn read_form(text: &[u8]) -> Result<Plant, Refusal> {
+    let whole = |m: usize, form: &Form| {
+        (m == form.bytes.len() && (m == text.len() || faults::is(Fault::TextAfterTable)))
+            || (faults::is(Fault::LastLineOpen) && m + 1 == form.bytes.len() && m == text.len())
+    };
+    FORMS.with(|forms| {
+        let mut longest = 0;
+        for form in forms {
+            let m = follows(text, &form.bytes);
+            if whole(m, form) {
+                return Ok(fill(form, text));
+            }
+            longest = longest.max(m);
+        }
+        Err(Refusal { number: 3, place: longest })
+    })
+}
+
+/// Refusal 2 for a table text's value.
+fn has_bits_beyond(plant: &Plant) -> bool {
+    let states = if plant.states == 64 { u64::MAX } else { (1 << plant.states) - 1 };
+    let props = if plant.props == 8 { 255 } else { (1u8 << plant.props) - 1 };
+    (plant.start & !states != 0 && !faults::is(Fault::StartBitsUnchecked))
+        || (plant.fair.iter().any(|f| f & !states != 0) && !faults::is(Fault::FairBitsUnchecked))
+        || (plant.next.iter().any(|n| n & !states != 0) && !faults::is(Fault::NextBitsUnchecked))
+        || (plant.label.iter().any(|l| l & !props != 0) && !faults::is(Fault::LabelBitsUnchecked))
+}
+
+pub fn read(text: &[u8]) -> Result<Plant, Refusal> {
+    let read = read_form(text);
+    if let Err(refusal) = &read {
+        let counts = [b"\nprops=".as_ref(), b"\nstates=", b"\njust="];
+        let before = [b"\n".as_ref(), &text[..refusal.place]].concat();
+        if faults::is(Fault::CountsAreOne) && counts.iter().any(|c| before.ends_with(c)) {
+            return Err(Refusal { number: 1, place: 0 });
+        }
+        // The mistaken reader looks at the start set as soon as its line has ended.
+        if faults::is(Fault::BitsBeforeForm) && refusal.place >= 46 && early_bad_start(text) {
+            return Err(Refusal { number: 2, place: 0 });
+        }
+    }
+    let plant = read?;
+    if has_bits_beyond(&plant) {
+        return Err(Refusal { number: 2, place: 0 });
+    }
+    Ok(plant)
+}
+
+fn early_bad_start(text: &[u8]) -> bool {
+    let lines: Vec<&[u8]> = text.split(|b| *b == b'\n').collect();
+    let states: u32 = std::str::from_utf8(&lines[1][7..]).unwrap().parse().unwrap();
+    states < 64 && hex(&lines[2][6..]) >> states != 0
+}
+
+impl Plant {
+    /// The table's text.
+    pub fn text(&self) -> Vec<u8> {
+        let mut text = format!("props={}\nstates={}\nstart={:016x}\njust={}\n", self.props, self.states, self.start, self.fair.len());
+        for (j, set) in self.fair.iter().enumerate() {
+            text += &format!("j{}={:016x}\n", j, set);
+        }
+        for s in 0..self.states {
+            text += &format!("label{}={:02x}\nnext{}={:016x}\n", s, self.label[s], s, self.next[s]);
+        }
+        text.into_bytes()
+    }
+
+    pub fn starts(&self, s: usize) -> bool {
+        self.start >> s & 1 == 1
+    }
+
+    pub fn moves(&self, s: usize, t: usize) -> bool {
+        self.next[s] >> t & 1 == 1
+    }
+
+    pub fn has(&self, s: usize, prop: u8) -> bool {
+        self.label[s] >> prop & 1 == 1
+    }
+}
+
+#[cfg(test)]
+pub fn plant_w() -> Plant {
+    Plant { props: 2, states: 3, start: 1, fair: vec![], label: vec![0, 1, 2], next: vec![3, 6, 5] }
+}
+
+#[cfg(test)]
+mod tests {
+    use super::*;
+
+    fn place(text: &str) -> (usize, usize) {
+        let r = read(text.as_bytes()).unwrap_err();
+        (r.number, r.place)
+    }
+
+    #[test]
+    fn the_longest_text_has_2348_bytes() {
+        assert_eq!(all_forms().iter().map(|f| f.bytes.len()).max(), Some(2348));
+    }
+
+    #[test]
+    fn what_is_written_is_read() {
+        assert_eq!(read(&plant_w().text()), Ok(plant_w()));
+    }
+
+    #[test]
+    fn places_by_hand() {
+        assert_eq!(place(""), (3, 0));
+        assert_eq!(place("props=9\n"), (3, 6));
+        assert_eq!(place("props=0\n"), (3, 6));
+        assert_eq!(place("props=1\nstates=65\n"), (3, 16));
+        assert_eq!(place("props=1\nstates=640"), (3, 17));
+        assert_eq!(place("props=1\nstates=06"), (3, 15));
+        assert_eq!(place("props=1\nstates=6"), (3, 16));
+        assert_eq!(place("props=1\nstates=1\nstart=000000000000000F"), (3, 38));
+    }
+
+    #[test]
+    fn form_goes_before_bits() {
+        let mut text = plant_w().text();
+        text[25] = b'f';
+        assert_eq!(read(&text), Err(Refusal { number: 2, place: 0 }));
+        let last = text.len() - 1;
+        text[last] = b'x';
+        assert_eq!(read(&text), Err(Refusal { number: 3, place: last }));
+    }
+}

@@ -1,0 +1,115 @@
+//! The program's whole output, from what stands in the three places.
+
+use crate::faults::{self, Fault};
+use crate::pairs::{Graph, Monitor, Verdict};
+use crate::{log, plant, rule, Refusal};
+
+/// What stands in a file's place.
+#[derive(Clone, Debug, PartialEq)]
+pub enum File {
+    Bytes(Vec<u8>),
+    /// The same bytes behind a link.
+    Linked(Vec<u8>),
+    Missing,
+    Folder,
+    /// A link to nothing.
+    Dangling,
+    /// A file that opens but can't be read.
+    Failing,
+    /// A file that this user may not open.
+    Forbidden(Vec<u8>),
+}
+
+impl File {
+    /// The bytes, if they can be read and are not too many.
+    fn within(&self, limit: usize) -> Result<Vec<u8>, Refusal> {
+        match self {
+            File::Bytes(bytes) | File::Linked(bytes) if bytes.len() <= limit => Ok(bytes.clone()),
+            File::Folder if faults::is(Fault::FolderIsEmpty) => Ok(vec![]),
+            _ => Err(Refusal { number: 14, place: 0 }),
+        }
+    }
+}
+
+pub struct Files {
+    pub plant: File,
+    pub rule: File,
+    pub log: File,
+}
+
+fn plant_bytes(file: &File) -> Result<Vec<u8>, Refusal> {
+    let limit = if faults::is(Fault::PlantLimit) { 2347 } else if faults::is(Fault::NoPlantLimit) { 1 << 30 } else { 2348 };
+    file.within(limit)
+}
+
+fn rule_bytes(file: &File) -> Result<Vec<u8>, Refusal> {
+    let mut bytes = file.within(513)?;
+    if faults::is(Fault::RuleSizeAfterDrop) && bytes.len() == 513 && bytes[512] != b'\n' {
+        return Err(Refusal { number: 14, place: 0 });
+    }
+    let drops = if faults::is(Fault::DropsNone) { 0 } else { 1 + faults::is(Fault::DropsTwo) as usize };
+    for _ in 0..drops {
+        if bytes.last() == Some(&b'\n') {
+            bytes.pop();
+        }
+    }
+    Ok(bytes)
+}
+
+fn log_bytes(file: &File) -> Result<Vec<u8>, Refusal> {
+    if faults::is(Fault::MissingIsEmpty) && *file == File::Missing {
+        return Ok(vec![]);
+    }
+    file.within(if faults::is(Fault::LogLimit) { 65500 } else if faults::is(Fault::NoLogLimit) { 1 << 30 } else { 65520 })
+}
+
+fn lamp(monitor: &Monitor, graph: &Graph) -> String {
+    let word = match monitor.verdict() {
+        Verdict::Inconclusive if faults::is(Fault::WordUnknown) => "unknown",
+        Verdict::Inconclusive => "inconclusive",
+        Verdict::True => "true",
+        Verdict::False => "false",
+        Verdict::OutOfModel => "out-of-model",
+    };
+    format!("verdict={} left={}\n", word, monitor.left(graph))
+}
+
+/// Writes the lines into `out`; a refusal ends them.
+fn lines(files: &Files, out: &mut String) -> Result<(), Refusal> {
+    if faults::is(Fault::FilesFirst) {
+        plant_bytes(&files.plant)?;
+        rule_bytes(&files.rule)?;
+        log_bytes(&files.log)?;
+    }
+    let plant = plant::read(&plant_bytes(&files.plant)?)?;
+    let rule = rule::read(&rule_bytes(&files.rule)?, plant.props)?;
+    let text = log_bytes(&files.log)?;
+    let early = faults::is(Fault::LogLate) || faults::is(Fault::EventBeforeForm);
+    let events = if early { log::read(&text[..text.len() / 20 * 20]).or_else(|_| log::read(&text)) } else { log::read(&text) }?;
+    let graph = Graph::new(&plant, &rule);
+    let mut monitor = Monitor::open(&graph);
+    *out += &format!("start {}", lamp(&monitor, &graph));
+    if faults::is(Fault::LogLate) {
+        log::read(&text)?;
+    }
+    let mut shown = 0;
+    for (n, event) in events.iter().enumerate() {
+        if !event.is_legal(plant.props) {
+            let place = if faults::is(Fault::EventPlaceZero) { 0 } else if faults::is(Fault::EventPlaceLine) { n } else { 20 * n };
+            return Err(Refusal { number: 10, place });
+        }
+        monitor = monitor.step(&graph, *event);
+        shown = if faults::is(Fault::NumbersRestart) && event.new { 0 } else { shown };
+        *out += &format!("n={} {}", shown, lamp(&monitor, &graph));
+        shown += 1;
+    }
+    log::read(&text).map(|_| ())
+}
+
+pub fn output(files: &Files) -> String {
+    let mut out = String::new();
+    if let Err(refusal) = lines(files, &mut out) {
+        out += &format!("refused={} place={}\n", refusal.number, refusal.place);
+    }
+    out
+}
