@@ -1,0 +1,100 @@
+#!/usr/bin/env python3
+"""Writes a seeded case at the limits (64 states, 8 propositions, 4 fairness sets, a rule with 6 temporal operators) to a folder.
+
+usage: bench/draw_case.py FOLDER SEED [MOVES [SEEN [OPERATORS]]]
+MOVES: how many moves are drawn for each state (default 2). SEEN: how many propositions an event shows, on average; with 0 (the default)
+nothing is seen and every state is a starting state, so that as many pairs as can be are held. OPERATORS: those that are drawn (default XFGUR).
+
+The folder gets plant.txt, rule.txt and log.txt (100 lines along a run of the plant), and twin.txt, the same for the C twin: numbers alone,
+the rule as its nodes, operands first.
+"""
+import os
+import random
+import sys
+
+folder, seed = sys.argv[1], int(sys.argv[2])
+moves, seen, operators = (sys.argv[3:] + ['2', '0', 'XFGUR'][len(sys.argv) - 3:])[:3]
+moves, seen = int(moves), int(seen)
+draw = random.Random(seed)
+STATES, PROPS, FAIR, PARTS, NODES, LINES = 64, 8, 4, 6, 32, 100
+CODES = {'X': 4, 'F': 5, 'G': 6, 'U': 7, 'R': 8, '&': 9, '|': 10, '->': 11}
+PROP, NOT = 2, 3
+
+
+def some_states(count):
+    word = 0
+    for _ in range(count):
+        word |= 1 << draw.randrange(STATES)
+    return word
+
+
+def tree(size, parts):
+    """A rule with at most `size` nodes and about `parts` temporal operators: a text for a leaf, else operator and operands."""
+    if parts == 0 and (size < 3 or draw.random() < 0.5):
+        leaf = 'p%d' % draw.randrange(PROPS)
+        return draw.choice([leaf] * 6 + ['!p%d' % draw.randrange(PROPS)]) if size >= 2 else leaf
+    choices = list(operators) if parts else []
+    if parts < 3 and size > 2 * parts + 4:
+        choices += ['&', '|', '->']
+    if not choices:
+        return 'p%d' % draw.randrange(PROPS)
+    operator = draw.choice(choices)
+    rest = parts - (operator in 'XFGUR')
+    if operator in 'XFG':
+        return (operator, tree(size - 1, rest))
+    left = draw.randint(0, rest)
+    room = size - 1
+    share = max(1, min(room - 1, room * (left + 1) // (rest + 2)))
+    return (operator, tree(share, left), tree(room - share, rest - left))
+
+
+def text(rule):
+    if isinstance(rule, str):
+        return rule
+    if len(rule) == 2:
+        return rule[0] + text(rule[1])
+    return '(' + text(rule[1]) + rule[0] + text(rule[2]) + ')'
+
+
+def nodes(rule):
+    if isinstance(rule, str):
+        return nodes(rule[1:]) + [(NOT, 0)] if rule[0] == '!' else [(PROP, int(rule[1]))]
+    return [node for operand in rule[1:] for node in nodes(operand)] + [(CODES[rule[0]], 0)]
+
+
+def parts_of(rule):
+    return sum(CODES['X'] <= code <= CODES['R'] for code, _ in nodes(rule))
+
+
+labels = [draw.randrange(1 << PROPS) for _ in range(STATES)]
+nexts = [some_states(moves) for _ in range(STATES)]
+fairs = [some_states(16) for _ in range(FAIR)]
+start = draw.getrandbits(STATES) | 1 if seen else (1 << STATES) - 1
+rule = tree(30, PARTS)
+while parts_of(rule) != PARTS or len(nodes(rule)) > NODES:
+    rule = tree(30, PARTS)
+sees = [sum((draw.random() < seen / PROPS) << p for p in range(PROPS)) for _ in range(LINES)]
+here = draw.randrange(STATES)
+start |= 1 << here
+events = []
+for see in sees:
+    events.append((see, labels[here] & see))
+    here = draw.choice([s for s in range(STATES) if nexts[here] >> s & 1])
+
+os.makedirs(folder, exist_ok=True)
+
+
+def write(name, lines, end='\n'):
+    with open(os.path.join(folder, name), 'w') as file:
+        file.write('\n'.join(lines) + end)
+
+
+write('plant.txt', ['props=%d' % PROPS, 'states=%d' % STATES, 'start=%016x' % start, 'just=%d' % FAIR]
+      + ['j%d=%016x' % pair for pair in enumerate(fairs)]
+      + ['label%d=%02x\nnext%d=%016x' % (s, labels[s], s, nexts[s]) for s in range(STATES)])
+write('rule.txt', [text(rule)], '')
+write('log.txt', ['see=%02x val=%02x new=0' % event for event in events])
+write('twin.txt', ['%d %d %d %d' % (PROPS, STATES, start, FAIR)] + ['%d' % fair for fair in fairs]
+      + ['%d %d' % pair for pair in zip(labels, nexts)]
+      + ['%d' % len(nodes(rule))] + ['%d %d' % node for node in nodes(rule)]
+      + ['%d' % LINES] + ['%d %d' % event for event in events])
