@@ -11,7 +11,7 @@ use Rattle.pairs.specs.Sets.{inside, emptyOf, occursIn, leftOf, occupied, occup
 use borrow.Author.Tests.{not-true}
 use Rattle.meaning.specs.Says.{Says, Kept}
 use Rattle.meaning.specs.Formula.{Formula, Holds}
-use Rattle.meaning.specs.Run.{Plant, Lasso, stateAt, wordOf}
+use Rattle.meaning.specs.Run.{Plant, Lasso, stateAt, labelsAlong}
 use Rattle.meaning.specs.Event.{History, now}
 use Rattle.meaning.specs.Pair.{PairAt}
 use Rattle.meaning.specs.Verdict.{Agreeing, At, Possible, CanBe, Right}
@@ -55,7 +55,7 @@ module _ (T : Plant) (f : Formula) (A : AcceptedTable T) (small : Small f) (m : 
       of : (b : Bool) (v : ℕ) → At T f b h s v → CanBe T h s
       of b v a = (a .lasso, (a .chosen .run, a .chosen .agrees), a .pair .state)
 
-      at : {b : Bool} (L : Lasso) → Agreeing T h L → PairAt T f L (now h) s (valuesAt T f L (now h)) → Kept b (Holds (wordOf T L) f (h .mark))
+      at : {b : Bool} (L : Lasso) → Agreeing T h L → PairAt T f L (now h) s (valuesAt T f L (now h)) → Kept b (Holds (labelsAlong T L) f (h .mark))
           → At T f b h s (valuesAt T f L (now h))
       at L ag p k = record { lasso = L; chosen = record { run = ag .0; agrees = ag .1; judged = k }; pair = p }
 

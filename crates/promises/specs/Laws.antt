@@ -7,7 +7,7 @@ use mathlib.Core.Bool.{Bool, true, false, not}
 use mathlib.Core.List.{List}
 use Rattle.meaning.specs.Says.{Kept}
 use Rattle.meaning.specs.Formula.{Formula, neg, Word, Holds, temporal, parts}
-use Rattle.meaning.specs.Run.{Plant, Run, Lasso, wordOf}
+use Rattle.meaning.specs.Run.{Plant, Run, Lasso, labelsAlong}
 use Rattle.meaning.specs.Event.{Event, History, since, now}
 use Rattle.meaning.specs.Pair.{PairAt}
 use Rattle.meaning.specs.Verdict.{At, Possible, verdictOf}
@@ -24,7 +24,7 @@ abbrev pub Equivalent : Formula → Formula → Type 0
 Equivalent f g = (w : Word) (i : ℕ) → Holds w f i ↔ Holds w g i
 
 same-possible : (T : Plant) (f g : Formula) (h : History) → Equivalent f g → (b : Bool) → Possible T f h b → Possible T g h b
-same-possible T f g h e b (L, c) = (L, record { run = c .run; agrees = c .agrees; judged = kept-iff b (e (wordOf T L) (h .mark)) (c .judged) })
+same-possible T f g h e b (L, c) = (L, record { run = c .run; agrees = c .agrees; judged = kept-iff b (e (labelsAlong T L) (h .mark)) (c .judged) })
 
 module _ (T : Plant) (A : AcceptedTable T) (f g : Formula) (sf : Small f) (sg : Small g) (es : List Event) where
   -- the same lamp
@@ -47,7 +47,7 @@ module _ (T : Plant) (A : AcceptedTable T) (f g : Formula) (sf : Small f) (sg : 
 
 -- what the negated rule breaks, the rule keeps
 module _ (T : Plant) (f : Formula) (h : History) (L : Lasso) (run : Run T L) where
-  neg-kept : (b : Bool) → Kept b (Holds (wordOf T L) (neg f) (h .mark)) ↔ Kept (not b) (Holds (wordOf T L) f (h .mark))
+  neg-kept : (b : Bool) → Kept b (Holds (labelsAlong T L) (neg f) (h .mark)) ↔ Kept (not b) (Holds (labelsAlong T L) f (h .mark))
   unfolding Holds
   neg-kept true = (λ k. k, λ k. k)
   neg-kept false = (λ k. sure (judged T f h L run) k, λ k n. n k)

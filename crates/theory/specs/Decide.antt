@@ -8,7 +8,7 @@ use lib.ListN.{length}
 use Rattle.meaning.specs.Bit.{bit}
 use Rattle.meaning.specs.Says.{Says}
 use Rattle.meaning.specs.Formula.{Formula, never, always, prop, neg, next, finally, globally, until, release, and, or, implies, Holds}
-use Rattle.meaning.specs.Run.{Plant, Lasso, wordOf}
+use Rattle.meaning.specs.Run.{Plant, Lasso, labelsAlong}
 use Rattle.words.specs.Below.{anyBelow, allBelow}
 use Rattle.theory.specs.Period.{horizon, near}
 use Rattle.words.specs.Truth.{says-not, says-and, says-or, says-implies, says-true, says-false}
@@ -19,7 +19,7 @@ use Rattle.words.specs.Folds.{any-says, all-says}
 unfoldable pub truth : Plant → Lasso → Formula → ℕ → Bool
 truth T L never i = false
 truth T L always i = true
-truth T L (prop p) i = bit (wordOf T L i) p
+truth T L (prop p) i = bit (labelsAlong T L i) p
 truth T L (neg a) i = not (truth T L a i)
 truth T L (next a) i = truth T L a (suc i)
 truth T L (finally a) i = anyBelow (horizon L i) (λ j. leb i j && truth T L a j)
@@ -32,7 +32,7 @@ truth T L (implies a b) i = not (truth T L a i) || truth T L b i
 
 module _ (T : Plant) (L : Lasso) (loops : 0 < length (L .loop)) where
   abbrev Right : Formula → Type 0
-  Right f = (i : ℕ) → Says (truth T L f i) (Holds (wordOf T L) f i)
+  Right f = (i : ℕ) → Says (truth T L f i) (Holds (labelsAlong T L) f i)
 
   finally-right : (a : Formula) → Right a → Right (finally a)
   unfolding Holds truth

@@ -10,7 +10,7 @@ use lib.ListN.{length, length-append, List·getD-append}
 use lib.Seq.{getD-append-seam}
 use Rattle.meaning.specs.Bit.{bit}
 use Rattle.meaning.specs.Formula.{Formula}
-use Rattle.meaning.specs.Run.{Plant, Lasso, FairLasso, stateAt, wordOf, labelOf}
+use Rattle.meaning.specs.Run.{Plant, Lasso, FairLasso, stateAt, labelsAlong, labelOf}
 use Rattle.meaning.specs.Event.{Seen, Agrees, AgreesWith, seenAt, nothing, History, none, more, now}
 use Rattle.meaning.specs.Step.{value}
 use Rattle.meaning.specs.Pair.{PairAt, Live}
@@ -93,7 +93,7 @@ module _ (T : Plant) (f : Formula) (b : Bool) where
     run = record { walk = walk; starts = rw (same 0 (omega arith)) (c .run .starts) };
     agrees = λ i lt. rw (same i (omega arith)) (c .agrees i lt);
     judged = kept-iff b
-        (same-past f (wordOf T L) (wordOf T J) (λ i. (valuesAt T f L i, pair-of T f L (c .run .walk) i .gives)) (now h) v
+        (same-past f (labelsAlong T L) (labelsAlong T J) (λ i. (valuesAt T f L i, pair-of T f L (c .run .walk) i .gives)) (now h) v
         (λ i le. ap (labelOf T) (sym (same i le))) (p .gives) (q .gives) (h .mark) marked)
         (c .judged);
   }

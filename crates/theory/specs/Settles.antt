@@ -9,7 +9,7 @@ use lib.ListN.{length}
 use Rattle.meaning.specs.Bit.{bit}
 use Rattle.meaning.specs.Says.{Says}
 use Rattle.meaning.specs.Formula.{Formula, never, always, prop, neg, next, finally, globally, until, release, and, or, implies, parts, temporal, Word, Holds}
-use Rattle.meaning.specs.Run.{Plant, Lasso, wordOf}
+use Rattle.meaning.specs.Run.{Plant, Lasso, labelsAlong}
 use Rattle.meaning.specs.Pair.{Gives}
 use Rattle.meaning.specs.Step.{value, Part, table}
 use Rattle.theory.specs.Move.{settled}
@@ -22,7 +22,7 @@ use Rattle.words.specs.Truth.{says-itself, true-or-false, says-dec, says-not, s
 
 module _ (T : Plant) (L : Lasso) (loops : 0 < length (L .loop)) where
   abbrev w : Word
-  w = wordOf T L
+  w = labelsAlong T L
 
   -- a rule fails somewhere from i on, or holds from i on
   fails-or-holds : (a : Formula) (i : ℕ) → ((j : ℕ) × (i ≤ j) × (Holds w a j → ⊥)) ⊎ ((j : ℕ) → i ≤ j → Holds w a j)

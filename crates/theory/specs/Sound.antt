@@ -9,7 +9,7 @@ use lib.ListN.{length, getD, length-map, List·getD-map}
 use Rattle.meaning.specs.Bit.{bit}
 use Rattle.graphs.specs.Lasso.{Ring}
 use Rattle.meaning.specs.Formula.{Formula}
-use Rattle.meaning.specs.Run.{Plant, Lasso, FairLasso, stateAt, labelOf, nextOf, wordOf}
+use Rattle.meaning.specs.Run.{Plant, Lasso, FairLasso, stateAt, labelOf, nextOf, labelsAlong}
 use Rattle.meaning.specs.Pair.{PairAt, Live}
 use Rattle.meaning.specs.Step.{fits, table}
 use Rattle.theory.specs.Each.{Each, each-of, each-at, each-imp}
@@ -75,7 +75,7 @@ module _ (T : Plant) (f : Formula) (s v : ℕ) (low : s < 64) (xs ys : List ℕ)
   pub ring-pair : PairAt T f (ringStates xs ys) 0 s v
   ring-pair = record {
     state = state 0 ∙ ap stateOf (ring-first l) ∙ node-first s v low;
-    gives = rw first at (lasting (wordOf T L) (λ i. valuesOf (stateAt K i)) f (λ i. rw (state i, state (suc i)) (steps i .1))
+    gives = rw first at (lasting (labelsAlong T L) (λ i. valuesOf (stateAt K i)) f (λ i. rw (state i, state (suc i)) (steps i .1))
         (each-imp _ _ (λ c h i. let (j, le, m) = h i in (j, le, rw (state j) m)) (table f 0) settled-again) 0);
     small = rw first at (valid-says T f (stateAt K 0) .0 (ring-within l 0) .1);
   }

@@ -26,7 +26,7 @@ module _ (T : Plant) (f : Formula) (L : Lasso) where
     state = refl;
     gives = λ k lt.
         let e : bit (valuesAt i) k ≡ truth T L (part f k) i = word-at (parts f) (λ k. truth T L (part f k) i) k lt in
-        subst (λ (b : Bool). Says b (Holds (Run.wordOf T L) (part f k) i)) (sym e) (truth-says T L (walk .loops) (part f k) i);
+        subst (λ (b : Bool). Says b (Holds (Run.labelsAlong T L) (part f k) i)) (sym e) (truth-says T L (walk .loops) (part f k) i);
     small = wordOf-lt (parts f) (λ k. truth T L (part f k) i);
   }
 
