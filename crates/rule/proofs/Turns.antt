@@ -9,7 +9,7 @@ use lib.Dec.{eqb}
 use Rattle.syntax.specs.declared.Op.{Op}
 use Rattle.syntax.specs.declared.Op.the-variants.{False, True, Prop, Not, Next, Finally, Globally, Until, Release, And, Or, Implies}
 use Rattle.syntax.specs.Postfix.{sides, whole}
-use Rattle.syntax.specs.Value.{temporal, count}
+use Rattle.syntax.specs.Value.{temporalDigit, count}
 use Rattle.rule.specs.Valid.{every}
 
 module _ (p : Op → Bool) {os : List Op} {b : Bool} (inv : every p os ≡ b) where
@@ -39,7 +39,7 @@ module _ {os : List Op} (d : ℕ) {b : Bool} (inv : whole os d ≡ b) where
   unfolding whole
   whole-ends e = sym (ap (λ l. whole l d) e) ∙ inv
 
-pub temporal-few : (o : Op) → temporal o ≤ 1
+pub temporal-few : (o : Op) → temporalDigit o ≤ 1
 temporal-few False = omega arith
 temporal-few True = omega arith
 temporal-few (Prop k) = omega arith
@@ -53,7 +53,7 @@ temporal-few And = omega arith
 temporal-few Or = omega arith
 temporal-few Implies = omega arith
 
-pub count-turn : {os ps : List Op} {o : Op} → os ≡ o ∷ ps → count os ≡ temporal o + count ps
+pub count-turn : {os ps : List Op} {o : Op} → os ≡ o ∷ ps → count os ≡ temporalDigit o + count ps
 unfolding count
 count-turn e = ap count e
 

@@ -3,7 +3,7 @@ use syntax::Op;
 use syntax::Rule;
 ghost use mathlib.Core.Path.{_≡_};
 ghost use Rattle.syntax.specs.Postfix.{whole};
-ghost use Rattle.syntax.specs.Value.{held, beyond, temporal, count};
+ghost use Rattle.syntax.specs.Value.{held, beyond, temporalDigit, count};
 ghost use Rattle.rule.specs.Valid.{isFalse, known, every};
 
 // Whether an operator is no proposition from `props` on.
@@ -47,7 +47,7 @@ fn is_false(op: Op) -> bool
 
 // 1 for a temporal operator.
 fn temporal_of(op: Op) -> usize
-    ensures { λ r. ⌜ r ≡ temporal op ⌝ }
+    ensures { λ r. ⌜ r ≡ temporalDigit op ⌝ }
 {
     match op {
         Op::False => 0,

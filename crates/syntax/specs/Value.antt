@@ -45,22 +45,22 @@ held r = opsOf (take (r .len) (r .nodes))
 abbrev pub beyond : Rule → List Op
 beyond r = opsOf (drop (r .len) (r .nodes))
 
--- 1 for a temporal operator
-abbrev pub temporal : Op → ℕ
-temporal False = 0
-temporal True = 0
-temporal (Prop k) = 0
-temporal Not = 0
-temporal Next = 1
-temporal Finally = 1
-temporal Globally = 1
-temporal Until = 1
-temporal Release = 1
-temporal And = 0
-temporal Or = 0
-temporal Implies = 0
+-- 1 for a temporal operator, 0 for another
+abbrev pub temporalDigit : Op → ℕ
+temporalDigit False = 0
+temporalDigit True = 0
+temporalDigit (Prop k) = 0
+temporalDigit Not = 0
+temporalDigit Next = 1
+temporalDigit Finally = 1
+temporalDigit Globally = 1
+temporalDigit Until = 1
+temporalDigit Release = 1
+temporalDigit And = 0
+temporalDigit Or = 0
+temporalDigit Implies = 0
 
 -- how many temporal operators there are among nodes
 unfoldable pub count : List Op → ℕ
 count [] = 0
-count (o ∷ os) = temporal o + count os
+count (o ∷ os) = temporalDigit o + count os
