@@ -2,7 +2,7 @@
 use Prim.Native.Nat.{ℕ, _-_, _^_, _<_}
 use native.Mathlib.Omega.{arith}
 use mathlib.Core.Path.{_≡_, sym, subst}
-use mathlib.Core.Logic.{_↔_, Iff·trans, Iff·symm}
+use mathlib.Core.Logic.{_↔_}
 use mathlib.Core.Bool.{true, false, So}
 use mathlib.Core.List.{List}
 use Rattle.words.specs.Below.{wordsBelow}
@@ -12,7 +12,7 @@ use Rattle.pairs.specs.Sets.{inside, sameOf, same-equal}
 use Rattle.words.specs.Below.{countBelow}
 use Rattle.words.specs.Folds.{count-le}
 use Rattle.graphs.specs.Core.{LiveNode, Keeps, keeps-start}
-use Rattle.graphs.specs.Fair.{Lives, lives-iff, lives-same}
+use Rattle.graphs.specs.Fair.{Lives, lives-iff}
 use Rattle.graphs.specs.Trim.{trimmed-done}
 use Rattle.meaning.specs.Says.{Says}
 use Rattle.meaning.specs.Formula.{Formula, parts}
@@ -22,15 +22,15 @@ use Rattle.meaning.specs.Limits.{AcceptedTable, Small}
 use Rattle.theory.specs.Node.{node, stateOf, valuesOf, valid, valid-says, valid-below, edge, goals}
 use Rattle.theory.specs.Alive.{valuations-few, live-iff}
 use Rattle.model.specs.Settle.{settle-keeps, settle-rests}
-use Rattle.model.specs.Sets.{PairSet, nodesOf, at-node, nodes-valid, set-grown, nodes-ext, differ, sets-ext}
+use Rattle.model.specs.Sets.{PairSet, nodesOf, at-node, nodes-valid, set-grown, differ}
 use Rattle.pairs.specs.Sets.{inside-words}
 use Rattle.model.specs.LiveSet.{enough, narrow, allPairs, liveSet}
 use Rattle.model.specs.Round.{narrowed}
 use Rattle.words.specs.Truth.{says-and}
 use Rattle.words.specs.Tests.{lt-says}
 
--- what a loop of rounds has left: it holds pairs of the table and the rule, and all live ones. The loop begins with keeping-start, goes on by
--- keeping-more, comes to an end by keeping-less, and stops with keeping-end.
+-- what rounds have left: it holds pairs of the table and the rule, and all live ones. They begin with keeping-start, go on by keeping-more, and
+-- come to an end by keeping-less.
 pub record Keeping (T : Plant) (f : Formula) (Z : List ℕ) : Type 0 where
   pub set : PairSet T f Z
   pub keeps : Keeps (edge T f) (goals T f) (valid T f) (nodesOf Z)
@@ -52,7 +52,7 @@ module _ (T : Plant) (f : Formula) (A : AcceptedTable T) (small : Small f) where
   pub keeping-more : (Z : List ℕ) → Keeping T f Z → Keeping T f (narrow T f Z)
   keeping-more Z k = let (y, t) = narrowed T f A small (k .set) in record { set = y; keeps = t .keeps (valid T f) (k .keeps) }
 
-  pub keeping-less : (Z : List ℕ) → Keeping T f Z → sameOf (narrow T f Z) Z ≡ false → countBelow 4096 (nodesOf (narrow T f Z)) < countBelow 4096 (nodesOf Z)
+  keeping-less : (Z : List ℕ) → Keeping T f Z → sameOf (narrow T f Z) Z ≡ false → countBelow 4096 (nodesOf (narrow T f Z)) < countBelow 4096 (nodesOf Z)
   keeping-less Z k e = let (y, t) = narrowed T f A small (k .set) in set-grown (A .few-states) (valuations-few f small) y (k .set) (t .inside) (differ e)
 
   keeping-lives : (Z : List ℕ) → Keeping T f Z → sameOf (narrow T f Z) Z ≡ true → Lives (edge T f) (goals T f) (valid T f) (nodesOf Z)
@@ -76,9 +76,6 @@ module _ (T : Plant) (f : Formula) (A : AcceptedTable T) (small : Small f) where
       (λ Z k e. omega (arith, count-le 4096 (nodesOf Z), keeping-less Z k e))
       enough (allPairs T f) keeping-start (omega arith))
 
-  pub keeping-end : (Z : List ℕ) → Keeping T f Z → sameOf (narrow T f Z) Z ≡ true → Z ≡ liveSet T f
-  keeping-end Z k e = nodes-ext (A .few-states) (k .set) live-set (lives-same 4096 (valid-below T f (valuations-few f small)) (keeping-lives Z k e) lives)
-
   -- the live set is right
   pub live-says : (s v : ℕ) → Says (inside (liveSet T f) s v) (Live T f s v)
   live-says s v = (
@@ -91,7 +88,3 @@ module _ (T : Plant) (f : Formula) (A : AcceptedTable T) (small : Small f) where
 
       at : s < 64 → So (nodesOf (liveSet T f) (node s v)) ↔ LiveNode (edge T f) (goals T f) (valid T f) (node s v)
       at h = lives-iff 4096 (valid-below T f (valuations-few f small)) lives (node s v)
-
-  -- and the only right one: however code finds the live pairs, it finds these words
-  pub live-only : (Z : List ℕ) → PairSet T f Z → ((s v : ℕ) → Says (inside Z s v) (Live T f s v)) → Z ≡ liveSet T f
-  live-only Z z says = sets-ext (A .few-states) z live-set (λ s v. Iff·trans (says s v) (Iff·symm (live-says s v)))

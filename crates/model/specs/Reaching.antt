@@ -14,7 +14,7 @@ use Rattle.pairs.specs.Sets.{inside, joinOf, inside-join, sameOf, same-equal}
 use Rattle.moves.specs.Leading.{leadingAt, leadingOf}
 use Rattle.words.specs.Below.{countBelow}
 use Rattle.words.specs.Folds.{count-le}
-use Rattle.graphs.specs.Close.{Partly, Closure, partly-start, partly-grow, closure-same}
+use Rattle.graphs.specs.Close.{Partly, Closure, partly-start, partly-grow}
 use Rattle.meaning.specs.Says.{Says}
 use Rattle.meaning.specs.Formula.{Formula, parts}
 use Rattle.meaning.specs.Run.{Plant}
@@ -22,7 +22,7 @@ use Rattle.meaning.specs.Limits.{AcceptedTable, Small}
 use Rattle.theory.specs.Node.{stateOf, valuesOf, edge}
 use Rattle.theory.specs.Alive.{valuations-few}
 use Rattle.model.specs.Settle.{settle-keeps, settle-rests}
-use Rattle.model.specs.Sets.{PairSet, nodesOf, set-grown, nodes-ext, differ}
+use Rattle.model.specs.Sets.{PairSet, nodesOf, set-grown, differ}
 use Rattle.pairs.specs.Sets.{inside-words}
 use Rattle.model.specs.Moves.{from, to}
 use Rattle.model.specs.Leads.{leading-node}
@@ -40,8 +40,7 @@ module _ (p q : List ℕ) (s v : ℕ) where
   join-says : Says (inside (joinOf p q) s v) ((v < 64) × (So (inside p s v) ⊎ So (inside q s v)))
   join-says = rw (inside-join p q s v) (says-and (lt-says v 64) (or-says (inside p s v) (inside q s v)))
 
--- what a loop of sweeps has found so far: the loop begins with found-start, goes on by found-more, comes to an end by found-less, and
--- stops with found-end
+-- what sweeps have found so far: they begin with found-start, go on by found-more, and come to an end by found-less
 pub record Found (T : Plant) (f : Formula) (Z G B : List ℕ) : Type 0 where
   pub set : PairSet T f B
   pub part : Partly (edge T f) (nodesOf Z) (nodesOf G) (nodesOf B)
@@ -102,7 +101,7 @@ module _ (T : Plant) (f : Formula) (A : AcceptedTable T) (small : Small f) where
       part = partly-grow (k .part) (λ x i. widen-node (k .set) x .1 (inl i)) (λ x i. widen-node (k .set) x .0 i);
     }
 
-    pub found-less : (B : List ℕ) → Found T f Z G B → sameOf (widen T f Z B) B ≡ false → countBelow 4096 (nodesOf B) < countBelow 4096 (nodesOf (widen T f Z B))
+    found-less : (B : List ℕ) → Found T f Z G B → sameOf (widen T f Z B) B ≡ false → countBelow 4096 (nodesOf B) < countBelow 4096 (nodesOf (widen T f Z B))
     found-less B k e = set-grown (A .few-states) few (k .set) (widen-set (k .set)) (λ x i. widen-node (k .set) x .1 (inl i)) (λ p. differ e (sym p))
 
     found-closure : (B : List ℕ) → Found T f Z G B → sameOf (widen T f Z B) B ≡ true → Closure (edge T f) (nodesOf Z) (nodesOf G) (nodesOf B)
@@ -122,6 +121,3 @@ module _ (T : Plant) (f : Formula) (A : AcceptedTable T) (small : Small f) where
     reaching-closure = found-closure (reaching T f Z G) found
         (settle-rests (widen T f Z) sameOf (Found T f Z G) found-more (λ B. countBelow 4096 (nodesOf B)) 4096 (λ B _. count-le 4096 (nodesOf B)) found-less
         enough (meetOf Z G) found-start (omega arith))
-
-    pub found-end : (B : List ℕ) → Found T f Z G B → sameOf (widen T f Z B) B ≡ true → B ≡ reaching T f Z G
-    found-end B k e = nodes-ext (A .few-states) (k .set) reaching-set (closure-same (found-closure B k e) reaching-closure)

@@ -1,7 +1,7 @@
 -- The step rule of 01, for any live set and any state handed in: which pairs the opening and a step hold.
 use Prim.Native.Nat.{ℕ, _^_, _≤_, _<_}
 use mathlib.Core.Path.{_≡_, refl}
-use mathlib.Core.Logic.{Iff·trans, Iff·symm}
+use mathlib.Core.Logic.{Iff·trans}
 use mathlib.Core.Bool.{Bool, true, false, So, _&&_, cond, Bool·beq}
 use mathlib.Core.List.{List}
 use lib.Bits.{bitAnd}
@@ -22,7 +22,7 @@ use Rattle.meaning.specs.Event.{Seen, Agrees, Event}
 use Rattle.meaning.specs.Step.{value, Pairs, Opens, Source, Stays}
 use Rattle.meaning.specs.Limits.{AcceptedTable, Small}
 use Rattle.theory.specs.Alive.{valuations-few}
-use Rattle.model.specs.Sets.{PairSet, sets-ext}
+use Rattle.model.specs.Sets.{PairSet}
 use Rattle.pairs.specs.Sets.{inside-words}
 use Rattle.model.specs.Moves.{from, to}
 use Rattle.model.specs.Leads.{reached-says}
@@ -100,12 +100,6 @@ module _ (T : Plant) (f : Formula) (A : AcceptedTable T) (small : Small f) (live
 
   pub opening-sets : (b : Bool) → PairSet T f (side (opening T f live) b)
   opening-sets b = record { long = rw (side-opening T f live b) (length-words n _); range = λ s v i. l .range s v (opening-rule b s v .0 i .0) }
-
-  -- however code finds the pairs of a step, it finds these words
-  pub step-only : (m : Monitor) (held : (b : Bool) → PairSet T f (side m b)) (e : Event) (b : Bool) (Z : List ℕ) → PairSet T f Z
-      → ((s v : ℕ) → Says (inside Z s v) (Stays T f (In live) (In (side m b)) (m .seen) e b s v)) → Z ≡ side (stepOf T f live m e) b
-  step-only m held e b Z z says =
-      sets-ext (A .few-states) z (step-sets m held e b) (λ s v. Iff·trans (says s v) (Iff·symm (step-rule m held e b s v)))
 
 -- a restart flag on the first event changes nothing
 pub first-restart : (T : Plant) (f : Formula) (live : List ℕ) (m : Monitor) (e : Event) → m .seen ≡ false

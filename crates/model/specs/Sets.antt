@@ -41,9 +41,6 @@ module _ {T : Plant} {f : Formula} where
     pub sets-ext : ((s v : ℕ) → So (inside Y s v) ↔ So (inside Z s v)) → Y ≡ Z
     sets-ext h = pairs-ext Y Z (y .long) (z .long) (λ s v _. so-ext (inside Y s v) (inside Z s v) (h s v .0) (h s v .1))
 
-  pub nodes-ext : T .states ≤ 64 → {Y Z : List ℕ} → PairSet T f Y → PairSet T f Z → ((x : ℕ) → nodesOf Y x ≡ nodesOf Z x) → Y ≡ Z
-  nodes-ext few y z h = sets-ext few y z (λ s v. (node-inside few y z (λ x i. sym (h x) ∙ i) s v, node-inside few z y (λ x i. h x ∙ i) s v))
-
   module _ (few : T .states ≤ 64) (most : 2 ^ parts f ≤ 64) {Y Z : List ℕ} (y : PairSet T f Y) (z : PairSet T f Z) where
     -- a superset that is not the same has more pairs
     pub set-grown : nodesOf Y ⊆ nodesOf Z → (Y ≡ Z → ⊥) → countBelow 4096 (nodesOf Y) < countBelow 4096 (nodesOf Z)

@@ -1,11 +1,9 @@
 -- For code that keeps a word of states for each part at each valuation: what the words must hold, and that they give `from` and `to`.
 use Prim.Native.Nat.{ℕ, _-_, _^_, _<_}
 use native.Mathlib.Nat.{lt-of-lt-of-le}
-use mathlib.Core.Path.{_≡_, refl, sym, ap, _∙_}
+use mathlib.Core.Path.{_≡_, refl, sym, _∙_}
 use mathlib.Core.Bool.{Bool, true, false, _&&_, _||_, cond, Bool·beq}
 use mathlib.Core.List.{List}
-use lib.Bits.{bitAnd}
-use lib.ListN.{getD}
 use borrow.Author.Tests.{lt-ltb}
 use Rattle.meaning.specs.Bit.{bit}
 use Rattle.words.specs.Truth.{beq-self}
@@ -13,18 +11,13 @@ use Rattle.words.specs.Laws.{bit-all}
 use Rattle.words.specs.Folds.{all-same}
 use Rattle.words.specs.Unions.{bit-shared}
 use Rattle.moves.specs.Fit.{entry, agreeing, fittingOf, meetingOf, bit-agreeing, bit-fitting}
-use Rattle.moves.specs.Image.{imageOf}
-use Rattle.moves.specs.Leading.{leadingOf}
 use Rattle.meaning.specs.Formula.{Formula, parts}
 use Rattle.meaning.specs.Run.{Plant, labelOf}
 use Rattle.meaning.specs.Limits.{AcceptedTable}
 use Rattle.meaning.specs.Step.{Value, Part, nextPart, untilPart, releasePart, fit}
 use Rattle.theory.specs.Parts.{partOf, partNumber, part-number}
 use Rattle.model.specs.Moves.{leaving, entering, from, to}
-use Rattle.model.specs.Sets.{PairSet}
-use Rattle.words.specs.Lists.{words-same}
-use Rattle.model.specs.LiveSet.{before}
-use Rattle.model.specs.Code.{from-parts, to-parts, reached-same, leading-same}
+use Rattle.model.specs.Code.{from-parts, to-parts}
 
 -- what the part unfolds to where its value next is x; a part X asks nothing of the state left
 unfoldable pub unfolds : Part → Bool → Value
@@ -91,19 +84,3 @@ module _ (T : Plant) (f : Formula) (A : AcceptedTable T) where
       row k lk true n = bit-agreeing (bit v k) (p .words w k) t (lt-of-lt-of-le lt (A .few-states))
           ∙ sym (entering-operand (partOf f k) v w (labelOf T t) ∙ rw (← n, part-number f k lk, p .holds w k t lw lk lt))
       row k lk false n = bit-all 64 t ∙ lt-ltb t 64 (lt-of-lt-of-le lt (A .few-states)) ∙ sym (entering-operand (partOf f k) v w (labelOf T t) ∙ rw (← n))
-
--- so a step and the pairs with a move into a set, worked out with such tables, are those of the definitions
-module _ (T : Plant) (f : Formula) (A : AcceptedTable T) (lows highs : List ℕ) (nexts : ℕ) (operands : List ℕ)
-    (p : Rows T f lows (λ c. unfolds c false)) (q : Rows T f highs (λ c. unfolds c true))
-    (x : (k : ℕ) → k < parts f → bit nexts k ≡ isNext (partOf f k)) (o : Rows T f operands operandOf) (Z : List ℕ) (z : PairSet T f Z) where
-  pub image-tables : (live : List ℕ) (agree : ℕ)
-      → imageOf (T .next) Z (fittingOf (parts f) lows highs) (meetingOf (parts f) nexts operands) (2 ^ parts f) live agree
-      ≡ imageOf (T .next) Z (from T f) (to T f) (2 ^ parts f) live agree
-  unfolding imageOf
-  image-tables live agree = words-same (2 ^ parts f) _ _ (λ w lw. ap (bitAnd (bitAnd (getD live w 0) agree)) (reached-same T f A Z z _ _
-      (λ v w s lv lw ls. fitting-from T f A lows highs p q v w s lv ls) (λ v w t lv lw lt. meeting-to T f A nexts operands x o v w t lw lt) w lw))
-
-  pub before-tables : leadingOf (T .next) (fittingOf (parts f) lows highs) (meetingOf (parts f) nexts operands) (2 ^ parts f) Z ≡ before T f Z
-  unfolding leadingOf before
-  before-tables = words-same (2 ^ parts f) _ _ (λ v lv. leading-same T f A Z z _ _
-      (λ v w s lv lw ls. fitting-from T f A lows highs p q v w s lv ls) (λ v w t lv lw lt. meeting-to T f A nexts operands x o v w t lw lt) v lv)

@@ -1,12 +1,12 @@
 -- The laws of `matched`.
-use Prim.Native.Nat.{ℕ, zero, suc, _+_, _≤_, _<_, zero-le}
+use Prim.Native.Nat.{ℕ, suc, _+_, _≤_, _<_, zero-le}
 use mathlib.Core.Path.{_≡_, refl, ap}
 use mathlib.Core.Bool.{Bool, true, false, cond}
 use mathlib.Core.List.{List, [], _∷_, _++_}
 use native.Mathlib.Omega.{arith}
 use mathlib.Core.Logic.{⊎-elim}
 use native.Mathlib.Nat.{eq-or-lt-of-le}
-use lib.ListN.{length, take, drop, getD, length-append}
+use lib.ListN.{length, drop, getD, length-append}
 use Rattle.text.specs.Slot.{Slot, admits, matched}
 
 pub matched-text : (s : List ℕ) (ts : List Slot) → matched s ts ≤ length s
@@ -53,20 +53,6 @@ matched-less (b ∷ s) (t ∷ ts) us h = by-test (admits t b) h (matched-less s 
     by-test :
         (x : Bool) → cond x (suc (matched s ts)) 0 < suc (length ts) → (matched s ts < length ts → matched s (ts ++ us) ≡ matched s ts)
         → cond x (suc (matched s (ts ++ us))) 0 ≡ cond x (suc (matched s ts)) 0
-    by-test true l h = ap suc (h (omega arith))
-    by-test false l h = refl
-
--- a text that goes on as another does fits as far
-pub matched-take : (i : ℕ) (s : List ℕ) (ts : List Slot) → matched s ts ≤ i → matched (take i s) ts ≡ matched s ts
-unfolding matched
-matched-take zero s ts h = omega arith
-matched-take (suc i) [] ts h = refl
-matched-take (suc i) (b ∷ s) [] h = refl
-matched-take (suc i) (b ∷ s) (t ∷ ts) h = by-test (admits t b) h (matched-take i s ts)
-  where
-    by-test :
-        (x : Bool) → cond x (suc (matched s ts)) 0 ≤ suc i → (matched s ts ≤ i → matched (take i s) ts ≡ matched s ts)
-        → cond x (suc (matched (take i s) ts)) 0 ≡ cond x (suc (matched s ts)) 0
     by-test true l h = ap suc (h (omega arith))
     by-test false l h = refl
 

@@ -69,19 +69,7 @@ any-or (suc n) P Q =
     swap false false true q = refl
     swap false false false q = refl
 
--- what does not depend on the number may stand before
-pub any-and : (n : ℕ) (b : Bool) (P : ℕ → Bool) → anyBelow n (λ k. b && P k) ≡ (b && anyBelow n P)
-unfolding anyBelow
-any-and zero true P = refl
-any-and zero false P = refl
-any-and (suc n) true P = ap (λ (c : Bool). c || P n) (any-and n true P)
-any-and (suc n) false P = ap (λ (c : Bool). c || false) (any-and n false P)
-
 -- ---- allBelow
-
-pub all-more : (n : ℕ) (P : ℕ → Bool) → allBelow (n + 1) P ≡ (allBelow n P && P n)
-unfolding allBelow
-all-more n P = rw add-one
 
 pub all-same : (n : ℕ) (P Q : ℕ → Bool) → ((k : ℕ) → k < n → P k ≡ Q k) → allBelow n P ≡ allBelow n Q
 unfolding allBelow

@@ -3,7 +3,7 @@ use Prim.Native.Nat.{ℕ, zero, suc, _+_, _<_}
 use mathlib.Core.Path.{_≡_, refl, sym, ap, ap₂, _∙_}
 use mathlib.Core.Bool.{Bool, So, cond, false≢true}
 use mathlib.Core.Logic.{⊎-elim}
-use mathlib.Core.List.{List, [], _∷_, _++_}
+use mathlib.Core.List.{List, [], _∷_}
 use native.Mathlib.Omega.{arith}
 use native.Mathlib.Decide.{ℕ-discrete, decLt}
 use lib.Arith.{lt-of-le-ne}
@@ -20,11 +20,6 @@ use Rattle.words.specs.Tests.{below-cases}
 use Rattle.words.specs.Truth.{so-ext}
 
 -- ---- listBelow
-
--- a turn
-pub list-more : (n : ℕ) (f : ℕ → ℕ) → listBelow (n + 1) f ≡ listBelow n f ++ (f n ∷ [])
-unfolding listBelow
-list-more n f = rw add-one
 
 pub length-list : (n : ℕ) (f : ℕ → ℕ) → length (listBelow n f) ≡ n
 unfolding listBelow
@@ -68,10 +63,6 @@ pub changed-none : (f : ℕ → ℕ) (l : List ℕ) → length l ≡ 64 → l �
 changed-none f l h =
     words-ext l (changedBelow 0 f l) h (length-changed 0 f l)
     (λ v k. sym (changed-at 0 f l v k ∙ ap (λ (b : Bool). cond b (f v) (getD l v 0)) (le-ltb v 0 (omega arith))))
-
--- the word that the next turn reads is still the old one
-pub changed-next : (n : ℕ) (f : ℕ → ℕ) (l : List ℕ) → n < 64 → getD (changedBelow n f l) n 0 ≡ getD l n 0
-changed-next n f l h = changed-at n f l n h ∙ ap (λ (b : Bool). cond b (f n) (getD l n 0)) (le-ltb n n (omega arith))
 
 -- a turn: word n is stored
 pub changed-more : (n : ℕ) (f : ℕ → ℕ) (l : List ℕ) → set (changedBelow n f l) n (f n) ≡ changedBelow (n + 1) f l
@@ -124,9 +115,3 @@ words-same n f g h = words-ext (wordsBelow n f) (wordsBelow n g) (length-words n
 -- a turn as a loop has it: the list is as it should be, and so is the word stored
 pub words-turn : (n : ℕ) (f : ℕ → ℕ) (l : List ℕ) (x : ℕ) → l ≡ wordsBelow n f → x ≡ f n → set l n x ≡ wordsBelow (n + 1) f
 words-turn n f l x e h = ap₂ (λ (m : List ℕ) (y : ℕ). set m n y) e h ∙ words-more n f
-
--- a loop that changes all words in place comes to the same
-pub changed-all : (f : ℕ → ℕ) (l : List ℕ) → changedBelow 64 f l ≡ wordsBelow 64 f
-changed-all f l =
-    words-ext (changedBelow 64 f l) (wordsBelow 64 f) (length-changed 64 f l) (length-words 64 f)
-    (λ v h. changed-at 64 f l v h ∙ rw (words-at 64 f v h, lt-ltb v 64 h))

@@ -124,12 +124,6 @@ wordOf-lt n P = union-lt n n (λ k. onlyOf (P k) (2 ^ k)) (λ k h. small (P k) k
     small true k h = pow-lt h
     small false k h = pow-pos n
 
--- the word of a set's own members is the set
-pub wordOf-bit : (n x : ℕ) → x < 2 ^ n → wordOf n (bit x) ≡ x
-wordOf-bit n x h =
-    bit-ext n (wordOf n (bit x)) x (wordOf-lt n (bit x)) h
-    (λ k l. word-at n (bit x) k l)
-
 -- a set is empty where no number is a member
 pub empty-any : (n x : ℕ) → x < 2 ^ n → eqb x 0 ≡ not (anyBelow n (bit x))
 empty-any n x h = by-test (anyBelow n (bit x)) refl
