@@ -16,7 +16,8 @@ use Rattle.text.specs.Form.{Form, led, both, seen}
 use Rattle.text.specs.Hex.{hex, hex-length}
 use Rattle.text.specs.Count.{counted}
 use Rattle.text.specs.Cases.{below-or-beyond}
-use Rattle.text.specs.Below.{listBelow, length-list, at-list, of-list}
+use Rattle.words.specs.Below.{listBelow}
+use Rattle.words.specs.Lists.{length-list, at-list, of-list}
 use Rattle.text.specs.Many.{slotsBelow, offset, guessAt, below-same, below-length, below-exact, below-best}
 use Rattle.text.specs.Place.{Fills, Whole}
 use Rattle.log.specs.declared.Event.{Event}

@@ -16,7 +16,8 @@ use Rattle.text.specs.Form.{led, both, seen}
 use Rattle.text.specs.Hex.{hex}
 use Rattle.text.specs.Count.{counted}
 use Rattle.text.specs.Many.{slotsBelow}
-use Rattle.text.specs.Below.{listBelow, length-list, at-list}
+use Rattle.words.specs.Below.{listBelow}
+use Rattle.words.specs.Lists.{length-list, at-list}
 use Rattle.text.specs.Matched.{matched-text, matched-slots}
 use Rattle.text.specs.Cases.{below-or-beyond}
 use Rattle.text.specs.Written.{textOf, smallOf}

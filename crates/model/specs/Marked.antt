@@ -4,7 +4,7 @@ use mathlib.Core.Path.{_≡_, refl}
 use mathlib.Core.List.{List, [], _∷_, map}
 use mathlib.Core.Bool.{true, false}
 use Rattle.meaning.specs.Bit.{bit}
-use Rattle.words.specs.Below.{anyBelow, countBelow, unionBelow, listBelow, wordOf, changedBelow, wordsBelow}
+use Rattle.words.specs.Below.{anyBelow, countBelow, unionBelow, listBelow, wordOf, filled, wordsBelow}
 use Rattle.pairs.specs.Sets.{joinOf, statesOf, leftOf, sameOf}
 use Rattle.pairs.specs.Post.{postOf}
 use Rattle.moves.specs.Image.{reachedAt}
@@ -71,5 +71,5 @@ marked =
 
 -- the definitions show what 01 says
 pub marked-shown : map shown marked ≡ map (λ r. r .shows) marked
-unfolding bit anyBelow countBelow unionBelow listBelow wordOf changedBelow wordsBelow statesOf leftOf sameOf postOf reachedAt preOf leadingAt agreeingOf parts value table fit settled every settle leaving entering from to joinOf leadingOf meetOf before widen reaching goalSets narrow allPairs liveSet holding opensAt opening sourceAt keptOf stepOf runOf verdictOf verdict left
+unfolding bit anyBelow countBelow unionBelow listBelow wordOf filled wordsBelow statesOf leftOf sameOf postOf reachedAt preOf leadingAt agreeingOf parts value table fit settled every settle leaving entering from to joinOf leadingOf meetOf before widen reaching goalSets narrow allPairs liveSet holding opensAt opening sourceAt keptOf stepOf runOf verdictOf verdict left
 marked-shown = refl

@@ -1,20 +1,33 @@
 -- What the calls that read lines give.
 use Prim.Native.Nat.{ℕ, _+_, _^_, _≤_, _<_}
-use mathlib.Core.Path.{_≡_, ap₂, _∙_}
+use mathlib.Core.Path.{_≡_, sym, ap₂, _∙_}
 use mathlib.Core.List.{List, []}
 use native.Mathlib.Omega.{arith}
-use lib.ListN.{length, drop, getD}
+use lib.ListN.{length, drop, getD, List·getD-eq-default}
 use Rattle.text.specs.Slot.{Slot, word}
 use Rattle.text.specs.Number.{countSlots}
+use Rattle.text.specs.Cases.{if-below}
 use Rattle.text.specs.Form.{led, ended}
 use Rattle.text.specs.Hex.{hex}
 use Rattle.text.specs.After.{after, goes-on}
 use Rattle.text.specs.Read.{IsHex, IsCount}
 use Rattle.text.specs.Took.{Took, took-led, took-ended, took-both, hex-took, count-took}
-use Rattle.text.specs.Below.{padded, filled, filled-all, listBelow, length-list, list-at}
+use Rattle.words.specs.Below.{filled, listBelow}
+use Rattle.words.specs.Lists.{filled-at, length-filled, length-list, list-at, list-of}
 use Rattle.text.specs.Many.{listed, slotsBelow, guessAt, below-turn, listed-goes}
 use Rattle.text.specs.declared.Cursor.{Cursor}
 use Rattle.plant.specs.Text.{lf, keySlots, countLine, hexLine, fairs, rows, field, row, fairName, labelName, nextName, fieldLength, rowLength, field-fixed, row-fixed, field-reads, row-reads}
+
+-- a list made m long by zeros
+abbrev pub padded : ℕ → List ℕ → List ℕ
+padded m l = listBelow m (λ k. getD l k 0)
+
+-- which is how a loop fills it
+filled-padded : (m n : ℕ) (f : ℕ → ℕ) → filled m n f ≡ padded m (listBelow n f)
+filled-padded m n f =
+    sym (list-of m _ (filled m n f) (length-filled m n f) (λ k h. sym (filled-at m n f k h
+    ∙ if-below k n (λ x. x ≡ getD (listBelow n f) k 0) (f k) 0 (λ l. sym (list-at n f k l))
+    (λ l. sym (List·getD-eq-default (listBelow n f) 0 (omega (arith, length-list n f)))))))
 
 -- the guesses at the values of the fairness lines, and of the lines of a state
 abbrev pub fairAt : List ℕ → ℕ → ℕ
@@ -90,7 +103,7 @@ fair-done s c e n words p w l =
     record {
       took = listed-goes (field fairName 16) (fieldLength fairName 16) (field-fixed fairName 16) n (λ l. length l ≡ n) (λ l k. getD l k 0) (listBelow n) (length-list n)
           (list-at n) s c e p;
-      are = w ∙ filled-all 4 n (fairAt (drop (c .at) s));
+      are = w ∙ filled-padded 4 n (fairAt (drop (c .at) s));
       at = l;
     }
 
@@ -110,6 +123,6 @@ rows-done s c e n label next p l m =
       took = listed-goes row rowLength row-fixed n (λ p. (length (p .0) ≡ n) × (length (p .1) ≡ n)) (λ p k. (getD (p .0) k 0, getD (p .1) k 0))
           (λ f. (listBelow n (λ k. f k .0), listBelow n (λ k. f k .1))) (λ f. (length-list n (λ k. f k .0), length-list n (λ k. f k .1)))
           (λ f k l. ap₂ (λ (x y : ℕ). (x, y)) (list-at n (λ k. f k .0) k l) (list-at n (λ k. f k .1) k l)) s c e p;
-      labels = l ∙ filled-all 64 n (λ k. rowAt (drop (c .at) s) k .0);
-      nexts = m ∙ filled-all 64 n (λ k. rowAt (drop (c .at) s) k .1);
+      labels = l ∙ filled-padded 64 n (λ k. rowAt (drop (c .at) s) k .0);
+      nexts = m ∙ filled-padded 64 n (λ k. rowAt (drop (c .at) s) k .1);
     }

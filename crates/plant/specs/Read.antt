@@ -13,7 +13,7 @@ use Rattle.answers.specs.declared.Outcome.{Outcome}
 use Rattle.answers.specs.declared.Outcome.the-variants.{Accepted, Refused}
 use Rattle.answers.specs.Paper.{refusedAt}
 use Rattle.text.specs.Slot.{word, matched}
-use Rattle.text.specs.Below.{padded, length-list, list-at}
+use Rattle.words.specs.Lists.{length-list, list-at}
 use Rattle.text.specs.After.{after, cursor}
 use Rattle.text.specs.Form.{led, ended, both, seen}
 use Rattle.text.specs.Hex.{hex}
@@ -28,7 +28,7 @@ use Rattle.plant.specs.declared.Table.{Table}
 use Rattle.plant.specs.declared.TableRead.{TableRead}
 use Rattle.plant.specs.Table.{tableOutcome}
 use Rattle.plant.specs.Text.{tableForm, table-reads, parts, tableIn, partsOf, parts-back, propsKey, statesKey, startKey, justKey, countLine, hexLine, fairs, rows}
-use Rattle.plant.specs.Lines.{keyed-line, IsCountLine, IsHexLine, IsFair, IsRows}
+use Rattle.plant.specs.Lines.{padded, keyed-line, IsCountLine, IsHexLine, IsFair, IsRows}
 
 -- the counts of a table
 abbrev pub countsIn : run.Plant → Plant

@@ -11,7 +11,8 @@ use Rattle.text.specs.Form.{Form, Reads, led, ended, both, seen, reads-led, rea
 use Rattle.text.specs.Hex.{hex, hex-reads, hex-length}
 use Rattle.text.specs.Count.{counted, count-reads}
 use Rattle.text.specs.Many.{listed, reads-listed}
-use Rattle.text.specs.Below.{listBelow, length-list, list-at, list-of}
+use Rattle.words.specs.Below.{listBelow}
+use Rattle.words.specs.Lists.{length-list, list-at, list-of}
 
 -- ---- the lines
 

@@ -7,7 +7,7 @@ use lib.ListN.{length, getD}
 use Rattle.io.specs.Counts.{Counts}
 use Rattle.io.proofs.Counting.{counts}
 use Rattle.meaning.specs.Run as run
-use Rattle.text.specs.Below.{length-list}
+use Rattle.words.specs.Lists.{length-list}
 use Rattle.plant.specs.declared.Table.{Table}
 use Rattle.plant.specs.declared.TableRead.{TableRead}
 use Rattle.plant.specs.Read.{tableRead, tableOf, noTable}

@@ -11,6 +11,5 @@ pub mod After
 pub mod Read
 pub mod Took
 pub mod Many
-pub mod Below
 pub mod Small
 pub mod Promises

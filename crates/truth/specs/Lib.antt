@@ -1,5 +1,4 @@
 pub mod Ops
-pub mod Filled
 pub mod Shape
 pub mod Nodes
 pub mod Turns

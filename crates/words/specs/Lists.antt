@@ -1,7 +1,7 @@
 -- The laws of the lists that a loop over 0, 1, .. n - 1 fills.
 use Prim.Native.Nat.{ℕ, zero, suc, _+_, _<_}
 use mathlib.Core.Path.{_≡_, refl, sym, ap, ap₂, _∙_}
-use mathlib.Core.Bool.{Bool, So, cond, false≢true}
+use mathlib.Core.Bool.{Bool, So, false≢true}
 use mathlib.Core.Logic.{⊎-elim}
 use mathlib.Core.List.{List, [], _∷_}
 use native.Mathlib.Omega.{arith}
@@ -9,32 +9,45 @@ use native.Mathlib.Decide.{ℕ-discrete, decLt}
 use lib.Arith.{lt-of-le-ne}
 use native.Mathlib.Numerals.{add-one}
 use lib.Dec.{ltb}
-use lib.ListN.{length, getD, set, replicate, length-append, length-set, getD-replicate, List·getD-append, List·getD-eq-default}
+use lib.ListN.{length, getD, set, replicate, length-append, length-set, length-replicate, getD-replicate, List·getD-append, List·getD-eq-default}
 use lib.Seq.{getD-at, ext-getD, getD-set-same, getD-set-other}
 use borrow.Author.Tests.{lt-ltb, le-ltb, ltb-true}
 use Rattle.meaning.specs.Bit.{bit}
 use Rattle.words.specs.Laws.{bit-zero}
 use Rattle.words.specs.Word.{onlyOf}
-use Rattle.words.specs.Below.{listBelow, changedBelow, wordsBelow}
+use Rattle.words.specs.Below.{listBelow, filled, wordsBelow}
 use Rattle.words.specs.Tests.{below-cases}
 use Rattle.words.specs.Truth.{so-ext}
 
 -- ---- listBelow
 
-pub length-list : (n : ℕ) (f : ℕ → ℕ) → length (listBelow n f) ≡ n
-unfolding listBelow
-length-list zero f = refl
-length-list (suc n) f = length-append (listBelow n f) (f n ∷ []) ∙ ap (λ (m : ℕ). m + 1) (length-list n f) ∙ add-one n
+module _ {A : Type 0} where
+  pub length-list : (n : ℕ) (f : ℕ → A) → length (listBelow n f) ≡ n
+  unfolding listBelow
+  length-list zero f = refl
+  length-list (suc n) f = omega (arith, length-append (listBelow n f) (f n ∷ []), length-list n f)
 
--- its entries
-pub list-at : (n : ℕ) (f : ℕ → ℕ) (k : ℕ) → k < n → getD (listBelow n f) k 0 ≡ f k
-unfolding listBelow
-list-at zero f k h = absurd (omega arith)
-list-at (suc n) f k h =
-    ⊎-elim
-    (λ l. List·getD-append (listBelow n f) (f n ∷ []) 0 k (rw length-list l) ∙ list-at n f k l)
-    (λ e. rw e (getD-at (listBelow n f) (f n) [] 0 n (length-list n f)))
-    (below-cases h)
+  -- its entries
+  pub at-list : (d : A) (n : ℕ) (f : ℕ → A) (k : ℕ) → k < n → getD (listBelow n f) k d ≡ f k
+  unfolding listBelow
+  at-list d zero f k h = absurd (omega arith)
+  at-list d (suc n) f k h =
+      ⊎-elim
+      (λ l. List·getD-append (listBelow n f) (f n ∷ []) d k (rw length-list l) ∙ at-list d n f k l)
+      (λ e. rw e (getD-at (listBelow n f) (f n) [] d n (length-list n f)))
+      (below-cases h)
+
+  -- a list of so many is told by its entries
+  pub of-list : (d : A) (n : ℕ) (f : ℕ → A) (l : List A) → length l ≡ n → ((k : ℕ) → k < n → f k ≡ getD l k d) → listBelow n f ≡ l
+  of-list d n f l e h =
+      ext-getD d (listBelow n f) l (length-list n f ∙ sym e) (λ k b. let c : k < n = omega (arith, length-list n f) in at-list d n f k c ∙ h k c)
+
+-- of numbers
+abbrev pub list-at : (n : ℕ) (f : ℕ → ℕ) (k : ℕ) → k < n → getD (listBelow n f) k 0 ≡ f k
+list-at = at-list 0
+
+abbrev pub list-of : (n : ℕ) (f : ℕ → ℕ) (l : List ℕ) → length l ≡ n → ((k : ℕ) → k < n → f k ≡ getD l k 0) → listBelow n f ≡ l
+list-of = of-list 0
 
 -- an entry with a member is within the list
 pub entry-inside : (l : List ℕ) (i k : ℕ) → So (bit (getD l i 0) k) → i < length l
@@ -47,61 +60,65 @@ entry-inside l i k b = elim (decLt i (length l)) [
 pub words-ext : (l m : List ℕ) → length l ≡ 64 → length m ≡ 64 → ((v : ℕ) → v < 64 → getD l v 0 ≡ getD m v 0) → l ≡ m
 words-ext l m hl hm e = ext-getD 0 l m (hl ∙ sym hm) (λ v h. e v (omega arith))
 
--- ---- changedBelow: a list of 64 words that a loop changes in place
+-- ---- filled: a list of zeros that a loop fills from the front
 
-pub length-changed : (n : ℕ) (f : ℕ → ℕ) (l : List ℕ) → length (changedBelow n f l) ≡ 64
-unfolding changedBelow
-length-changed n f l = length-list 64 (λ v. cond (ltb v n) (f v) (getD l v 0))
+pub length-filled : (m n : ℕ) (f : ℕ → ℕ) → length (filled m n f) ≡ m
+unfolding filled
+length-filled m zero f = length-replicate m 0
+length-filled m (suc n) f = length-set (filled m n f) n (f n) ∙ length-filled m n f
 
 -- its entries
-pub changed-at : (n : ℕ) (f : ℕ → ℕ) (l : List ℕ) (v : ℕ) → v < 64 → getD (changedBelow n f l) v 0 ≡ cond (ltb v n) (f v) (getD l v 0)
-unfolding changedBelow
-changed-at n f l v h = list-at 64 (λ v. cond (ltb v n) (f v) (getD l v 0)) v h
+pub filled-at : (m n : ℕ) (f : ℕ → ℕ) (k : ℕ) → k < m → getD (filled m n f) k 0 ≡ onlyOf (ltb k n) (f k)
+unfolding filled
+filled-at m zero f k h = getD-replicate m k 0 0 h ∙ rw (le-ltb k 0 (omega arith))
+filled-at m (suc n) f k h = elim (ℕ-discrete k n) [ yes e ↦ same e | no d ↦ getD-set-other (filled m n f) n k (f n) 0 d ∙ filled-at m n f k h ∙ other d ]
+  where
+    same : k ≡ n → getD (set (filled m n f) n (f n)) k 0 ≡ onlyOf (ltb k (suc n)) (f k)
+    same e = rw (e, lt-ltb n (suc n) (omega arith)) (getD-set-same (filled m n f) n (f n) 0 (omega (arith, length-filled m n f)))
+
+    other : (k ≡ n → ⊥) → onlyOf (ltb k n) (f k) ≡ onlyOf (ltb k (suc n)) (f k)
+    other d = ap (λ (b : Bool). onlyOf b (f k)) (so-ext (ltb k n) (ltb k (suc n))
+        (λ p. let l = ltb-true k n p in lt-ltb k (suc n) (omega arith))
+        (λ p. let l = ltb-true k (suc n) p in lt-ltb k n (lt-of-le-ne (omega arith) d)))
 
 -- before the first turn
-pub changed-none : (f : ℕ → ℕ) (l : List ℕ) → length l ≡ 64 → l ≡ changedBelow 0 f l
-changed-none f l h =
-    words-ext l (changedBelow 0 f l) h (length-changed 0 f l)
-    (λ v k. sym (changed-at 0 f l v k ∙ ap (λ (b : Bool). cond b (f v) (getD l v 0)) (le-ltb v 0 (omega arith))))
+pub filled-none : (m : ℕ) (f : ℕ → ℕ) → replicate m 0 ≡ filled m 0 f
+unfolding filled
+filled-none m f = refl
 
--- a turn: word n is stored
-pub changed-more : (n : ℕ) (f : ℕ → ℕ) (l : List ℕ) → set (changedBelow n f l) n (f n) ≡ changedBelow (n + 1) f l
-changed-more n f l =
-    words-ext (set (changedBelow n f l) n (f n)) (changedBelow (n + 1) f l)
-    (length-set (changedBelow n f l) n (f n) ∙ length-changed n f l) (length-changed (n + 1) f l)
-    (λ v h. elim (ℕ-discrete v n) [ yes e ↦ same v h e | no d ↦ other v h d ] ∙ sym (changed-at (n + 1) f l v h))
-  where
-    same : (v : ℕ) → v < 64 → v ≡ n → getD (set (changedBelow n f l) n (f n)) v 0 ≡ cond (ltb v (n + 1)) (f v) (getD l v 0)
-    same v h e =
-        rw (e, lt-ltb n (n + 1) (omega arith)) (getD-set-same (changedBelow n f l) n (f n) 0 (rw length-changed (omega arith)))
+-- a turn as a loop has it: the list is as it should be, and so is the number stored
+pub filled-turn : (m n : ℕ) (f : ℕ → ℕ) (l : List ℕ) (x : ℕ) → l ≡ filled m n f → x ≡ f n → set l n x ≡ filled m (n + 1) f
+unfolding filled
+filled-turn m n f l x e h = rw add-one (ap₂ (λ (l : List ℕ) (y : ℕ). set l n y) e h)
 
-    other : (v : ℕ) → v < 64 → (v ≡ n → ⊥) → getD (set (changedBelow n f l) n (f n)) v 0 ≡ cond (ltb v (n + 1)) (f v) (getD l v 0)
-    other v h d =
-        getD-set-other (changedBelow n f l) n v (f n) 0 d ∙ changed-at n f l v h
-        ∙ ap (λ (b : Bool). cond b (f v) (getD l v 0)) (so-ext (ltb v n) (ltb v (n + 1))
-        (λ p. let l = ltb-true v n p in lt-ltb v (n + 1) (omega arith))
-        (λ p. let l = ltb-true v (n + 1) p in lt-ltb v n (lt-of-le-ne (omega arith) d)))
+-- after the last turn
+pub filled-all : (m : ℕ) (f : ℕ → ℕ) → filled m m f ≡ listBelow m f
+filled-all m f = sym (list-of m f (filled m m f) (length-filled m m f) (λ k h. sym (filled-at m m f k h ∙ rw (lt-ltb k m h))))
 
--- ---- wordsBelow: the same from 64 zeros
+-- ---- wordsBelow: 64 words
 
 pub length-words : (n : ℕ) (f : ℕ → ℕ) → length (wordsBelow n f) ≡ 64
 unfolding wordsBelow
-length-words n f = length-changed n f (replicate 64 0)
+length-words n f = length-filled 64 n f
 
 -- its entries
 pub words-at : (n : ℕ) (f : ℕ → ℕ) (v : ℕ) → v < 64 → getD (wordsBelow n f) v 0 ≡ onlyOf (ltb v n) (f v)
 unfolding wordsBelow
-words-at n f v h = changed-at n f (replicate 64 0) v h ∙ ap (cond (ltb v n) (f v)) (getD-replicate 64 v 0 0 h)
+words-at n f v h = filled-at 64 n f v h
 
 -- before the first turn
 pub words-none : (f : ℕ → ℕ) → replicate 64 0 ≡ wordsBelow 0 f
 unfolding wordsBelow
-words-none f = changed-none f (replicate 64 0) refl
+words-none f = filled-none 64 f
 
--- a turn
-pub words-more : (n : ℕ) (f : ℕ → ℕ) → set (wordsBelow n f) n (f n) ≡ wordsBelow (n + 1) f
+-- a turn as a loop has it: the list is as it should be, and so is the word stored
+pub words-turn : (n : ℕ) (f : ℕ → ℕ) (l : List ℕ) (x : ℕ) → l ≡ wordsBelow n f → x ≡ f n → set l n x ≡ wordsBelow (n + 1) f
 unfolding wordsBelow
-words-more n f = changed-more n f (replicate 64 0)
+words-turn n f l x e h = filled-turn 64 n f l x e h
+
+-- the same where the list and the word stand
+pub words-more : (n : ℕ) (f : ℕ → ℕ) → set (wordsBelow n f) n (f n) ≡ wordsBelow (n + 1) f
+words-more n f = words-turn n f (wordsBelow n f) (f n) refl refl
 
 -- equal words make equal lists
 pub words-same : (n : ℕ) (f g : ℕ → ℕ) → ((v : ℕ) → v < n → f v ≡ g v) → wordsBelow n f ≡ wordsBelow n g
@@ -111,7 +128,3 @@ words-same n f g h = words-ext (wordsBelow n f) (wordsBelow n g) (length-words n
     pick : (v : ℕ) → Dec (v < n) → onlyOf (ltb v n) (f v) ≡ onlyOf (ltb v n) (g v)
     pick v (yes l) = ap (onlyOf (ltb v n)) (h v l)
     pick v (no k) = rw (le-ltb v n (omega arith))
-
--- a turn as a loop has it: the list is as it should be, and so is the word stored
-pub words-turn : (n : ℕ) (f : ℕ → ℕ) (l : List ℕ) (x : ℕ) → l ≡ wordsBelow n f → x ≡ f n → set l n x ≡ wordsBelow (n + 1) f
-words-turn n f l x e h = ap₂ (λ (m : List ℕ) (y : ℕ). set m n y) e h ∙ words-more n f

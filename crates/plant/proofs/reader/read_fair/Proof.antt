@@ -3,7 +3,8 @@ use borrow.Author.Needs.{needs}
 use Rattle.plant.specs.Lines.{fairAt, fair-turn, fair-done}
 use Rattle.plant.specs.Text.{field, fairName}
 use Rattle.text.specs.Many.{slotsBelow}
-use Rattle.text.specs.Below.{filled, filled-none, filled-turn}
+use Rattle.words.specs.Below.{filled}
+use Rattle.words.specs.Lists.{filled-none, filled-turn}
 use Rattle.text.specs.After.{after}
 use lib.ListN.{drop}
 use native.Mathlib.Nat.{le-antisymm}

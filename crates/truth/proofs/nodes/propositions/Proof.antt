@@ -4,7 +4,8 @@ use Prim.Native.Nat.{_≤_, _-_, zero-le}
 use native.Mathlib.Omega.{arith}
 use native.Mathlib.Nat.{le-antisymm}
 use Rattle.labels.specs.Labels.{havingOf}
-use Rattle.truth.specs.Filled.{filled, filled-turn, filled-all}
+use Rattle.words.specs.Below.{filled}
+use Rattle.words.specs.Lists.{filled-turn, filled-all}
 use Rattle.truth.specs.Nodes.{havings}
 use borrow.Author.Needs.{needs}
 use Rattle.truth.proofs.nodes.propositions.Statement.{statement}

@@ -6,7 +6,8 @@ use native.Mathlib.Omega.{arith}
 use native.Mathlib.Nat.{le-antisymm}
 use lib.Dec.{ltb, eqb}
 use lib.ListN.{getD}
-use Rattle.truth.specs.Filled.{filled, filled-turn, filled-all}
+use Rattle.words.specs.Below.{filled}
+use Rattle.words.specs.Lists.{filled-turn, filled-all}
 use Rattle.truth.specs.Shape.{insertedOf}
 use borrow.Author.Needs.{needs}
 use Rattle.truth.proofs.shape.inserted.Statement.{statement}

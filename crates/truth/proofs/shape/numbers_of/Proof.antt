@@ -3,7 +3,8 @@ use mathlib.Core.Path.{_≡_, refl}
 use Prim.Native.Nat.{_≤_, _-_, zero-le}
 use native.Mathlib.Omega.{arith}
 use native.Mathlib.Nat.{le-antisymm}
-use Rattle.truth.specs.Filled.{filled, filled-turn, filled-all}
+use Rattle.words.specs.Below.{filled}
+use Rattle.words.specs.Lists.{filled-turn, filled-all}
 use Rattle.truth.specs.Shape.{numberIn, numbersOf}
 use borrow.Author.Needs.{needs}
 use Rattle.truth.proofs.shape.numbers_of.Statement.{statement}
