@@ -6,7 +6,7 @@ use mathlib.Core.Logic.{_↔_, _⊎_, inl, inr, ⊎-elim, Iff·trans}
 use mathlib.Core.Bool.{Bool, true, false, So, _&&_, _||_, not, false≢true}
 use mathlib.Core.List.{List}
 use lib.Dec.{ltb}
-use lib.ListN.{length, getD}
+use lib.ListN.{getD}
 use borrow.Author.Tests.{ltb-true, lt-ltb, eqb-true, eq-eqb}
 use Rattle.meaning.specs.Bit.{bit}
 use Rattle.meaning.specs.Says.{Says}
@@ -19,7 +19,7 @@ use Rattle.words.specs.Laws.{bit-and, bit-without, bit-only, bit-all, bit-zero,
 use Rattle.words.specs.Unions.{union-none, none-union}
 use Rattle.words.specs.Within.{members-below}
 use Rattle.words.specs.Lists.{entry-inside}
-use Rattle.pairs.specs.Sets.{inside, joinOf, length-join, inside-join}
+use Rattle.pairs.specs.Sets.{Words, inside, joinOf, length-join, inside-join}
 use Rattle.model.specs.Sets.{PairSet}
 use Rattle.model.specs.Checks.{pairsOk, pairs-says}
 use Rattle.answers.specs.declared.Kind.{Kind}
@@ -106,11 +106,6 @@ module _ (b : Bool) (n x : ℕ) (few : n ≤ 64) (low : x < 2 ^ 64) where
           let here = and-says (bit x s) (bit (2 ^ 64 - 1 - allowed) s) .0 (sym (bit-and x (2 ^ 64 - 1 - allowed) s) ∙ i) .0 in
           no-member (bit x s) (bit allowed s) (bit-allowed s .1 (h s here)) (sym (bit-without x allowed-low s (members-below 64 x .0 low s here)) ∙ i)
 
--- 64 words, as code has them
-pub record Words (l : List ℕ) : Type 0 where
-  pub long : length l ≡ 64
-  pub fits : (v : ℕ) → getD l v 0 < 2 ^ 64
-
 module _ (T : run.Plant) (f : Formula) (few : T .states ≤ 64) where
   -- the test with the table's states and the rule's valuations
   abbrev pub fit : List ℕ → Bool
@@ -121,21 +116,21 @@ module _ (T : run.Plant) (f : Formula) (few : T .states ≤ 64) where
   unfolding pairsFit
   fit-says l w = (there, back)
     where
-      exactly : (v : ℕ) → (strayAt l (2 ^ T .states - 1) (2 ^ parts f) v ≡ 0) ↔ ((s : ℕ) → So (inside l s v) → So (ltb v (2 ^ parts f)) × (s < T .states))
-      exactly v = stray-none (ltb v (2 ^ parts f)) (T .states) (getD l v 0) few (w .fits v)
+      exactly : (v : ℕ) → v < 64 → (strayAt l (2 ^ T .states - 1) (2 ^ parts f) v ≡ 0) ↔ ((s : ℕ) → So (inside l s v) → So (ltb v (2 ^ parts f)) × (s < T .states))
+      exactly v low = stray-none (ltb v (2 ^ parts f)) (T .states) (getD l v 0) few (w .fits v low)
 
       there : So (fit l) → PairSet T f l
       there e = record {
         long = w .long;
         range = λ s v i.
-            let none = union-none 64 (strayAt l (2 ^ T .states - 1) (2 ^ parts f)) (eqb-true _ 0 e) v (rw (w .long) at (entry-inside l v s i)) in
-            let h = exactly v .0 none s i in
+            let low : v < 64 = rw (w .long) at (entry-inside l v s i) in
+            let h = exactly v low .0 (union-none 64 (strayAt l (2 ^ T .states - 1) (2 ^ parts f)) (eqb-true _ 0 e) v low) s i in
             (h .1, ltb-true v (2 ^ parts f) (h .0));
       }
 
       back : PairSet T f l → So (fit l)
-      back z = eq-eqb _ 0 (none-union 64 (strayAt l (2 ^ T .states - 1) (2 ^ parts f)) (λ v _.
-          exactly v .1 (λ s i. let h = z .range s v i in (lt-ltb v (2 ^ parts f) (h .1), h .0))))
+      back z = eq-eqb _ 0 (none-union 64 (strayAt l (2 ^ T .states - 1) (2 ^ parts f)) (λ v low.
+          exactly v low .1 (λ s i. let h = z .range s v i in (lt-ltb v (2 ^ parts f) (h .1), h .0))))
 
   -- so it is check 9 of a set of pairs
   pub fit-is : (l : List ℕ) → Words l → fit l ≡ pairsOk T f l
@@ -154,8 +149,8 @@ module _ (T : run.Plant) (f : Formula) (few : T .states ≤ 64) where
       joined : Words (joinOf l m)
       joined = record {
         long = length-join l m;
-        fits = λ v. members-below 64 (getD (joinOf l m) v 0) .1 (λ s i.
-            ⊎-elim (members-below 64 (getD l v 0) .0 (w .fits v) s) (members-below 64 (getD m v 0) .0 (x .fits v) s) (either s v i));
+        fits = λ v low. members-below 64 (getD (joinOf l m) v 0) .1 (λ s i.
+            ⊎-elim (members-below 64 (getD l v 0) .0 (w .fits v low) s) (members-below 64 (getD m v 0) .0 (x .fits v low) s) (either s v i));
       }
 
       one : PairSet T f (joinOf l m) → PairSet T f l

@@ -9,7 +9,7 @@ use lib.ListN.{length}
 use Rattle.meaning.specs.Formula.{parts}
 use Rattle.words.specs.Truth.{and-says, says-and, says-same}
 use Rattle.pairs.specs.declared.Pairs.{Pairs}
-use Rattle.pairs.specs.Sets.{joinOf}
+use Rattle.pairs.specs.Sets.{Words, joinOf}
 use Rattle.model.specs.Monitor as model
 use Rattle.model.specs.Sets.{PairSet}
 use Rattle.model.specs.Checks.{pairsOk, pairs-says, eventOk, legal-says}
@@ -30,7 +30,7 @@ use Rattle.truth.specs.Tables.{tablesOf}
 use Rattle.truth.specs.Right.{RightTables}
 use Rattle.truth_laws.specs.TablesRight.{tables-right}
 use Rattle.checks.specs.Checks.{andThen, unless, inputOutcome, pairsFit}
-use Rattle.checks.specs.Exactly.{Words, fit-is, join-says, chain-accepts, unless-accepts}
+use Rattle.checks.specs.Exactly.{fit-is, join-says, chain-accepts, unless-accepts}
 use Rattle.checks.proofs.Input.{Input, input-accepted}
 use Rattle.monitor.specs.declared.Monitor.{Monitor}
 use Rattle.monitor.specs.declared.Watched.{Watched}

@@ -18,10 +18,9 @@ use Rattle.words.specs.Folds.{any-found, any-of}
 use Rattle.words.specs.Unions.{bit-union, bit-wordOf, some-member, member-some}
 use Rattle.words.specs.Lists.{entry-inside}
 use Rattle.words.specs.Within.{members-below}
-use Rattle.pairs.specs.Sets.{inside, inside-words}
+use Rattle.pairs.specs.Sets.{Fit, inside, inside-words}
 use Rattle.moves.specs.Back.{meets, preOf}
 use Rattle.moves.specs.Leading.{leadingVia, leadingAt, leadingOf}
-use Rattle.sweeps.specs.Sweeps.{Fit}
 use Rattle.graphs.specs.Sets.{Below}
 use Rattle.graphs.specs.Walk.{Edges}
 use Rattle.theory.specs.Node.{node, stateOf, valuesOf, node-first, node-second}

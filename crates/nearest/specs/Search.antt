@@ -11,7 +11,7 @@ use borrow.Author.Tests.{lt-ltb}
 use Rattle.words.specs.Below.{countBelow}
 use Rattle.words.specs.Truth.{or-says, so-not-not}
 use Rattle.words.specs.Within.{members-below}
-use Rattle.pairs.specs.Sets.{inside, joinOf, inside-join, length-join, emptyOf, occupied, occupant}
+use Rattle.pairs.specs.Sets.{Words, inside, joinOf, inside-join, length-join, emptyOf, occupied, occupant}
 use Rattle.moves.specs.Leading.{leadingOf}
 use Rattle.graphs.specs.Sets.{_⊆_}
 use Rattle.graphs.specs.Count.{room-lt}
@@ -22,7 +22,7 @@ use Rattle.model.specs.LiveSet.{meetOf}
 use Rattle.model.specs.Reaching.{meet-says}
 use Rattle.leads.specs.Halves.{fromIn, toIn}
 use Rattle.sweeps.specs.Sweeps.{withoutSet, moversOf}
-use Rattle.sweeps.specs.Laws.{Words, without-inside, inside-without}
+use Rattle.sweeps.specs.Laws.{without-inside, inside-without}
 use Rattle.nearest.specs.Graph.{nodes-below, movesOf, leading-nodes}
 use Rattle.nearest.specs.Ranking.{rankOf, RankedTo, ranked-old, ranked-new, Ranking, ranking-start, ranking-more, ranking-end}
 

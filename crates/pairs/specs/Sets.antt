@@ -1,5 +1,5 @@
 -- Sets of pairs as lists of 64 words: state s with valuation v is in the set where word v has the member s.
-use Prim.Native.Nat.{ℕ, _≤_, _<_}
+use Prim.Native.Nat.{ℕ, _^_, _≤_, _<_}
 use native.Mathlib.Omega.{arith}
 use native.Mathlib.Decide.{decLt}
 use mathlib.Core.Path.{_≡_, sym, _∙_}
@@ -52,6 +52,15 @@ differAt p q v = bitXor (getD p v 0) (getD q v 0)
 -- two sets have the same pairs: no word differs
 unfoldable pub sameOf : List ℕ → List ℕ → Bool
 sameOf p q = eqb (unionBelow 64 (differAt p q)) 0
+
+-- each of the 64 words is one of 64 bits
+abbrev pub Fit : List ℕ → Type 0
+Fit p = (v : ℕ) → v < 64 → getD p v 0 < 2 ^ 64
+
+-- 64 words, as code holds a set
+pub record Words (p : List ℕ) : Type 0 where
+  pub long : length p ≡ 64
+  pub fits : Fit p
 
 -- ---- what they mean
 

@@ -16,7 +16,7 @@ use Rattle.words.specs.Laws.{bit-and, bit-not}
 use Rattle.words.specs.Lists.{words-at, words-ext, length-words, entry-inside}
 use Rattle.words.specs.Folds.{count-le}
 use Rattle.words.specs.Truth.{not-so, and-says, or-says, not-says}
-use Rattle.pairs.specs.Sets.{inside, inside-words, inside-join, joinOf, length-join, emptyOf, occupied, occupant, pairs-ext, sameOf, same-equal, equal-same}
+use Rattle.pairs.specs.Sets.{Fit, Words, inside, inside-words, inside-join, joinOf, length-join, emptyOf, occupied, occupant, pairs-ext, sameOf, same-equal, equal-same}
 use Rattle.moves.specs.Leading.{leadingAt, leadingOf}
 use Rattle.graphs.specs.Count.{count-lt}
 use Rattle.theory.specs.Node.{node, stateOf, valuesOf}
@@ -26,7 +26,7 @@ use Rattle.model.specs.Reaching.{meet-says}
 use Rattle.model.specs.Settle.{settle-keeps}
 use Rattle.leads.specs.Halves.{fromIn, toIn}
 use Rattle.sweeps.specs.Settling.{Settling, settling-start, settling-more, settling-end}
-use Rattle.sweeps.specs.Sweeps.{Fit, withoutSet, moversAt, moversOf, sweepOf, reachingOf}
+use Rattle.sweeps.specs.Sweeps.{withoutSet, moversAt, moversOf, sweepOf, reachingOf}
 
 -- the pairs with a move, word by word
 pub movers-words : (next leave enter : List ℕ) (count : ℕ) (set within : List ℕ)
@@ -59,11 +59,6 @@ module _ (p q : List ℕ) (fits : Fit q) (s v : ℕ) where
   inside-without lv ls i o = rw (inside-words 64 (λ v. withoutOf (getD p v 0) (getD q v 0)) (omega arith) s v, bit-and, bit-not 64 (fits v lv) s, lt-ltb v 64 lv, lt-ltb s 64 ls, i, not-so (inside q s v) o)
 
 -- ---- one sweep
-
--- 64 words, as code holds a set
-pub record Words (B : List ℕ) : Type 0 where
-  pub long : length B ≡ 64
-  pub fits : Fit B
 
 -- how many pairs a set has
 abbrev pub pairsIn : List ℕ → ℕ

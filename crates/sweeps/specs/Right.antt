@@ -9,7 +9,7 @@ use lib.ListN.{getD}
 use borrow.Author.Tests.{lt-ltb}
 use Rattle.words.specs.Within.{members-below}
 use Rattle.words.specs.Truth.{so-ext, or-says, true-or-false}
-use Rattle.pairs.specs.Sets.{inside, inside-join, joinOf, length-join, pairs-ext, sameOf}
+use Rattle.pairs.specs.Sets.{Fit, inside, inside-join, joinOf, length-join, pairs-ext, sameOf}
 use Rattle.moves.specs.Leading.{leadingOf}
 use Rattle.meaning.specs.Formula.{Formula, parts}
 use Rattle.meaning.specs.Run.{Plant}
@@ -18,7 +18,7 @@ use Rattle.model.specs.Sets.{PairSet}
 use Rattle.model.specs.LiveSet.{meetOf, before, widen, reaching, enough}
 use Rattle.model.specs.Reaching.{Found, found-start, found-more, meet-says}
 use Rattle.leads.specs.Halves.{fromIn, toIn}
-use Rattle.sweeps.specs.Sweeps.{Fit, withoutSet, moversOf, sweepOf, reachingOf}
+use Rattle.sweeps.specs.Sweeps.{withoutSet, moversOf, sweepOf, reachingOf}
 use Rattle.sweeps.specs.Settling.{settle-same}
 use Rattle.sweeps.specs.Laws.{without-inside, inside-without}
 

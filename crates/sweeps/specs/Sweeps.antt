@@ -1,5 +1,5 @@
 -- Sets of pairs that sweeps work out: `leave` and `enter` say which states a move may leave and enter, in halves.
-use Prim.Native.Nat.{ℕ, _<_, _^_}
+use Prim.Native.Nat.{ℕ}
 use mathlib.Core.List.{List}
 use lib.Bits.{bitAnd}
 use lib.ListN.{getD}
@@ -10,10 +10,6 @@ use Rattle.moves.specs.Leading.{leadingVia, leadingAt, leadingOf}
 use Rattle.model.specs.Settle.{settle}
 use Rattle.model.specs.LiveSet.{meetOf, enough}
 use Rattle.leads.specs.Halves.{fromIn, toIn}
-
--- each of the 64 words is one of 64 bits
-abbrev pub Fit : List ℕ → Type 0
-Fit p = (v : ℕ) → v < 64 → getD p v 0 < 2 ^ 64
 
 -- the pairs of p that are not in q
 unfoldable pub withoutSet : List ℕ → List ℕ → List ℕ

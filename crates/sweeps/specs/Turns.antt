@@ -11,7 +11,7 @@ use Rattle.words.specs.Folds.{count-le}
 use Rattle.words.specs.Lists.{entry-inside, length-words}
 use Rattle.words.specs.Within.{members-below}
 use Rattle.words.specs.Truth.{so-ext}
-use Rattle.pairs.specs.Sets.{inside, length-join, pairs-ext, sameOf}
+use Rattle.pairs.specs.Sets.{Words, inside, length-join, pairs-ext, sameOf}
 use Rattle.moves.specs.Leading.{leadingOf}
 use Rattle.graphs.specs.Count.{grown}
 use Rattle.theory.specs.Node.{node, stateOf, valuesOf}
@@ -22,7 +22,7 @@ use Rattle.model.specs.Reaching.{meet-says}
 use Rattle.leads.specs.Halves.{fromIn, toIn}
 use Rattle.sweeps.specs.Settling.{Settling, settling-start, settling-more, settling-end}
 use Rattle.sweeps.specs.Sweeps.{moversOf, sweepOf, reachingOf}
-use Rattle.sweeps.specs.Laws.{Words, pairsIn, reaching-inside}
+use Rattle.sweeps.specs.Laws.{pairsIn, reaching-inside}
 use Rattle.sweeps.specs.Rounds.{goalOf, goalsAfter, roundOf, settleOf}
 
 -- a smaller set of words has fewer pairs

@@ -11,8 +11,7 @@ use lib.Seq.{getD-set-same, getD-set-other}
 use borrow.Author.Tests.{eqb-true, eq-eqb}
 use Rattle.words.specs.Laws.{bit-single, bit-zero}
 use Rattle.words.specs.Within.{members-below}
-use Rattle.pairs.specs.Sets.{emptyOf, occupied, occupant}
-use Rattle.sweeps.specs.Sweeps.{Fit}
+use Rattle.pairs.specs.Sets.{Fit, emptyOf, occupied, occupant}
 use Rattle.graphs.specs.Sets.{Nodes, Below, only}
 use Rattle.graphs.specs.Walk.{Edges}
 use Rattle.graphs.specs.Close.{closure-target}

@@ -8,7 +8,7 @@ use mir.Syntax.{w64}
 use Rattle.words.specs.Below.{countBelow}
 use Rattle.words.specs.Folds.{count-le}
 use Rattle.model.specs.Sets.{nodesOf}
-use Rattle.sweeps.specs.Laws.{Words}
+use Rattle.pairs.specs.Sets.{Words}
 use Rattle.nearest.specs.Graph.{movesOf}
 use Rattle.nearest.specs.Ranking.{rankOf, Ranking}
 use Rattle.nearest.specs.Search.{search-start, search-words, search-more, search-less, search-end}

@@ -5,8 +5,8 @@ use borrow.Author.Needs.{needs}
 use lib.ListN.{getD}
 use mir.Val.{Fits}
 use mir.Syntax.{w64}
-use Rattle.pairs.specs.Sets.{length-join}
-use Rattle.sweeps.specs.Laws.{Words, Sweeping, pairsIn, sweeping-start, sweeping-less, sweeping-more, sweeping-end}
+use Rattle.pairs.specs.Sets.{Words, length-join}
+use Rattle.sweeps.specs.Laws.{Sweeping, pairsIn, sweeping-start, sweeping-less, sweeping-more, sweeping-end}
 use Rattle.sweeps.proofs.reach.reaching.Statement.{statement}
 use Rattle.sweeps.proofs.reach.reaching.Tie as tie
 

@@ -4,7 +4,8 @@ use borrow.Author.Needs.{needs}
 use lib.ListN.{getD}
 use mir.Val.{Fits}
 use mir.Syntax.{w64}
-use Rattle.sweeps.specs.Laws.{Words, pairsIn}
+use Rattle.pairs.specs.Sets.{Words}
+use Rattle.sweeps.specs.Laws.{pairsIn}
 use Rattle.sweeps.specs.Turns.{Rounding, rounding-start, rounding-words, rounding-less, rounding-more, rounding-end}
 use Rattle.sweeps.proofs.rounds.settle.Statement.{statement}
 use Rattle.sweeps.proofs.rounds.settle.Tie as tie
