@@ -1,11 +1,11 @@
 -- Both halves together are what all parts ask.
 use Prim.Native.Nat.{ℕ, zero, suc, _+_, _-_, _*_, _/_, _%_, _^_, _≤_, _<_}
-use native.Mathlib.Nat.{zero-add, add-zero, add-suc}
+use native.Mathlib.Nat.{zero-add}
 use native.Mathlib.Omega.{arith}
 use native.Mathlib.Numerals.{add-one}
 use native.Mathlib.Decide.{decLt}
 use mathlib.Core.Path.{_≡_, refl, sym, ap, ap₂, _∙_}
-use mathlib.Core.Bool.{Bool, true, false, _&&_, cond, and-true, and-assoc}
+use mathlib.Core.Bool.{Bool, cond, and-true}
 use mathlib.Core.Logic.{⊎-elim}
 use mathlib.Core.List.{List}
 use lib.Bits.{bitAnd}
@@ -13,10 +13,10 @@ use lib.ListN.{length, getD, set, length-set}
 use lib.Seq.{getD-set-same, getD-set-other}
 use borrow.Author.Tests.{lt-ltb, le-ltb}
 use Rattle.meaning.specs.Bit.{bit}
-use Rattle.words.specs.Below.{allBelow, sharedBelow}
-use Rattle.words.specs.Laws.{bit-and, bit-half, bit-mod, same-bits}
+use Rattle.words.specs.Below.{sharedBelow}
+use Rattle.words.specs.Laws.{bit-half, bit-mod}
 use Rattle.words.specs.Tests.{below-cases}
-use Rattle.words.specs.Unions.{bit-shared}
+use Rattle.words.specs.Unions.{shared-split, shared-same}
 use Rattle.pairs.specs.Post.{postOf, post-none}
 use Rattle.moves.specs.Fit.{entry, agreeing, fittingOf, meetingOf}
 use Rattle.leads.specs.Halves.{fittingFrom, meetingFrom, middleOf, halvesAfter, leavingOf, enteringOf, bothOf, fromIn, toIn, movedOf}
@@ -59,26 +59,6 @@ module _ (f g : ℕ → ℕ) where
   both-halves x y lx ly = ap₂ bitAnd (halves-low 512 (x * 8 + y % 8) (omega arith) (omega arith)) (halves-high 512 (x * 8 + y / 8) (omega arith) (omega arith))
 
 -- ---- what the parts share, in two
-
-all-split : (m n : ℕ) (P : ℕ → Bool) → allBelow (m + n) P ≡ (allBelow m P && allBelow n (λ j. P (m + j)))
-unfolding allBelow
-all-split m zero P = rw (add-zero, and-true)
-all-split m (suc n) P = rw (add-suc, all-split m n P) (and-assoc (allBelow m P) (allBelow n (λ j. P (m + j))) (P (m + n)))
-
-shared-split : (x m n : ℕ) (f : ℕ → ℕ) → sharedBelow x (m + n) f ≡ bitAnd (sharedBelow x m f) (sharedBelow x n (λ j. f (m + j)))
-shared-split x m n f = same-bits _ _ λ k.
-    bit-shared x (m + n) f k ∙ ap (λ (b : Bool). bit x k && b) (all-split m n (λ i. bit (f i) k))
-    ∙ twice (bit x k) (allBelow m (λ i. bit (f i) k)) (allBelow n (λ j. bit (f (m + j)) k))
-    ∙ sym (bit-and (sharedBelow x m f) (sharedBelow x n (λ j. f (m + j))) k ∙ ap₂ _&&_ (bit-shared x m f k) (bit-shared x n (λ j. f (m + j)) k))
-  where
-    twice : (a b c : Bool) → (a && (b && c)) ≡ ((a && b) && (a && c))
-    twice true b c = refl
-    twice false b c = refl
-
-shared-same : (x n : ℕ) (f g : ℕ → ℕ) → ((k : ℕ) → k < n → f k ≡ g k) → sharedBelow x n f ≡ sharedBelow x n g
-unfolding sharedBelow
-shared-same x zero f g e = refl
-shared-same x (suc n) f g e = ap₂ bitAnd (shared-same x n f g (λ k h. e k (omega arith))) (e n (omega arith))
 
 -- the last three digits are those of the remainder, the others those of the rest
 low-digit : (z k : ℕ) → k < 3 → bit (z % 8) k ≡ bit z k
