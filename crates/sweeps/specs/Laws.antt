@@ -23,9 +23,8 @@ use Rattle.theory.specs.Node.{node, stateOf, valuesOf}
 use Rattle.model.specs.Sets.{nodesOf, at-node}
 use Rattle.model.specs.LiveSet.{meetOf, enough}
 use Rattle.model.specs.Reaching.{meet-says}
-use Rattle.model.specs.Settle.{settle-keeps}
 use Rattle.leads.specs.Halves.{fromIn, toIn}
-use Rattle.sweeps.specs.Settling.{Settling, settling-start, settling-more, settling-end}
+use Rattle.model.specs.Settle.{settle-keeps, Settling, settling-start, settling-more, settling-end}
 use Rattle.sweeps.specs.Sweeps.{withoutSet, moversAt, moversOf, sweepOf, reachingOf}
 
 -- the pairs with a move, word by word

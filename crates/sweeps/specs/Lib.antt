@@ -1,6 +1,5 @@
 pub mod Sweeps
 pub mod Scan
-pub mod Settling
 pub mod Laws
 pub mod Right
 pub mod Rounds

@@ -26,7 +26,7 @@ use Rattle.model.specs.Tables.{Rows}
 use Rattle.model.specs.LiveSet.{meetOf, before, reaching, fairSet, settledSet, goalSets, narrow, allPairs, liveSet, enough}
 use Rattle.model.specs.Reaching.{meet-set, reaching-set}
 use Rattle.model.specs.Lives.{Keeping, keeping-start, keeping-more}
-use Rattle.sweeps.specs.Settling.{settle-same}
+use Rattle.model.specs.Settle.{settle-same}
 use Rattle.sweeps.specs.Sweeps.{reachingOf}
 use Rattle.sweeps.specs.Right.{Moves, movers-right, reaching-right}
 use Rattle.sweeps.specs.Rounds.{everyOf, settledIn, goalOf, goalsAfter, roundOf, settleOf}

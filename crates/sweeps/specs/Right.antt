@@ -19,7 +19,7 @@ use Rattle.model.specs.LiveSet.{meetOf, before, widen, reaching, enough}
 use Rattle.model.specs.Reaching.{Found, found-start, found-more, meet-says}
 use Rattle.leads.specs.Halves.{fromIn, toIn}
 use Rattle.sweeps.specs.Sweeps.{withoutSet, moversOf, sweepOf, reachingOf}
-use Rattle.sweeps.specs.Settling.{settle-same}
+use Rattle.model.specs.Settle.{settle-same}
 use Rattle.sweeps.specs.Laws.{without-inside, inside-without}
 
 -- the pairs with a move into a set, worked out with the halves, are those of the rule

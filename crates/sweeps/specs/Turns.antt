@@ -16,11 +16,10 @@ use Rattle.moves.specs.Leading.{leadingOf}
 use Rattle.graphs.specs.Count.{grown}
 use Rattle.theory.specs.Node.{node, stateOf, valuesOf}
 use Rattle.model.specs.Sets.{nodesOf, at-node, differ}
-use Rattle.model.specs.Settle.{settle-keeps}
 use Rattle.model.specs.LiveSet.{meetOf, enough}
 use Rattle.model.specs.Reaching.{meet-says}
 use Rattle.leads.specs.Halves.{fromIn, toIn}
-use Rattle.sweeps.specs.Settling.{Settling, settling-start, settling-more, settling-end}
+use Rattle.model.specs.Settle.{settle-keeps, Settling, settling-start, settling-more, settling-end}
 use Rattle.sweeps.specs.Sweeps.{moversOf, sweepOf, reachingOf}
 use Rattle.sweeps.specs.Laws.{pairsIn, reaching-inside}
 use Rattle.sweeps.specs.Rounds.{goalOf, goalsAfter, roundOf, settleOf}
