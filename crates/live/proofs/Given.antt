@@ -1,10 +1,9 @@
 -- What the checks give the code behind them, and what the answers are.
 use Prim.Native.Nat.{ℕ, _≤_}
-use native.Mathlib.Omega.{arith}
-use mathlib.Core.Path.{_≡_, sym, ap, subst, _∙_}
+use mathlib.Core.Path.{_≡_, sym, ap, _∙_}
 use mathlib.Core.List.{List}
 use lib.ListN.{length, replicate}
-use Rattle.meaning.specs.Formula.{Formula, parts}
+use Rattle.meaning.specs.Formula.{Formula}
 use Rattle.meaning.specs.Run as run
 use Rattle.pairs.specs.declared.Pairs.{Pairs}
 use Rattle.model.specs.LiveSet.{liveSet}
@@ -14,13 +13,11 @@ use Rattle.answers.specs.declared.Outcome.the-variants.{Accepted, Refused}
 use Rattle.plant.specs.declared.Plant.{Plant}
 use Rattle.plant.specs.Table.{plantOf}
 use Rattle.syntax.specs.declared.Rule.{Rule}
-use Rattle.truth.specs.Shape.{partsIn}
 use Rattle.truth.specs.Ready.{Ready}
 use Rattle.truth.specs.Tables.{tablesOf}
-use Rattle.truth.specs.Right.{RightTables}
-use Rattle.truth_laws.specs.TablesRight.{tables-right}
 use Rattle.checks.specs.Checks.{formulaOf, inputOutcome}
-use Rattle.checks.proofs.Input.{Input, input-accepted}
+use Rattle.checks.proofs.Input.{Input}
+use Rattle.checks.proofs.Given.{accepted, right, ready}
 use Rattle.live.specs.declared.Prepared.{Prepared}
 use Rattle.live.specs.Prepare.{preparedAs, preparedOf, liveOf}
 use Rattle.live.specs.Right.{live-by}
@@ -39,28 +36,13 @@ module _ (p : Plant) (fair label next : List ℕ) (rule : Rule) where
   -- ---- an accepted table and rule
 
   module _ (i : Input p fair label next rule) where
-    right : RightTables table formula (tablesOf label rule)
-    right = tables-right table formula rule (i .table) (i .is) (i .small) (i .few) (i .below)
-
-    parts-is : partsIn rule ≡ parts formula
-    unfolding tablesOf
-    parts-is = right .count
-
     -- what the live pairs are worked out from is in order
     pub in-order : Ready label rule × ((1 ≤ p .states) × (p .states ≤ 64)) × (length fair ≤ 4)
-    in-order = (
-      record {
-        labels = omega (arith, i .table .labels, i .table .few-states);
-        long = subst (λ (r : Rule). r .len ≤ 32) (sym (i .is)) (i .small);
-        few = omega (arith, parts-is, i .few);
-      },
-      (i .table .some-states, i .table .few-states),
-      i .table .few-fair,
-    )
+    in-order = (ready i, (i .table .some-states, i .table .few-states), i .table .few-fair)
 
     live-set-is : liveOf (p .states) fair label next rule ≡ liveSet table formula
     unfolding liveOf
-    live-set-is = live-by table formula (i .table) (i .few) (tablesOf label rule) right
+    live-set-is = live-by table formula (i .table) (i .few) (tablesOf label rule) (right i)
 
   -- ---- the answers
 
@@ -70,9 +52,6 @@ module _ (p : Plant) (fair label next : List ℕ) (rule : Rule) where
   refused {r} e f empty = ap (answer (Refused r)) empty ∙ ap (λ (o : Outcome). preparedAs o (liveSet table formula)) (sym f ∙ e)
 
   module _ (full : length (rule .nodes) ≡ 32) {o : Outcome} (e : o ≡ inputOutcome p fair label next rule) (f : o ≡ Accepted) where
-    pub accepted : Input p fair label next rule
-    accepted = input-accepted p fair label next rule full .0 (sym e ∙ f)
-
     pub prepared : {live : Pairs} → live .words ≡ liveOf (p .states) fair label next rule → answer Accepted (live .words) ≡ preparedOf p fair label next rule
     unfolding preparedOf
-    prepared is = ap (answer Accepted) (is ∙ live-set-is accepted) ∙ ap (λ (o : Outcome). preparedAs o (liveSet table formula)) (sym f ∙ e)
+    prepared is = ap (answer Accepted) (is ∙ live-set-is (accepted p fair label next rule full e f)) ∙ ap (λ (o : Outcome). preparedAs o (liveSet table formula)) (sym f ∙ e)

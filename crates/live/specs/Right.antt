@@ -1,6 +1,6 @@
 -- With right tables the live set worked out is that of the model.
-use Prim.Native.Nat.{ℕ, _-_, _^_, _≤_}
-use mathlib.Core.Path.{_≡_, refl, sym, ap, subst, _∙_}
+use Prim.Native.Nat.{ℕ, _-_, _^_}
+use mathlib.Core.Path.{_≡_, refl, ap, _∙_}
 use mathlib.Core.List.{List}
 use Rattle.meaning.specs.Formula.{Formula, parts}
 use Rattle.meaning.specs.Run.{Plant}
@@ -13,17 +13,11 @@ use Rattle.sweeps.specs.Right.{Moves}
 use Rattle.sweeps.specs.Lives.{live-right}
 use Rattle.syntax.specs.declared.Rule.{Rule}
 use Rattle.truth.specs.declared.tables.Tables.{Tables}
-use Rattle.truth.specs.Ready.{Ready}
 use Rattle.truth.specs.Tables.{tablesOf}
 use Rattle.truth.specs.Right.{RightTables}
 use Rattle.live.specs.Prepare.{liveBy, liveOf}
 
 -- ---- what the code has
-
--- the parts of a rule that is ready are few
-pub few-parts : {t : Tables} {label : List ℕ} {rule : Rule} → t ≡ tablesOf label rule → Ready label rule → t .parts ≤ 6
-unfolding tablesOf
-few-parts e ok = subst (λ (u : Tables). u .parts ≤ 6) (sym e) (ok .few)
 
 -- what its calls give, one after the other
 pub live-is : {t : Tables} (states : ℕ) (fair label next : List ℕ) (rule : Rule) {leave enter all r : List ℕ} {n word : ℕ} → t ≡ tablesOf label rule

@@ -1,12 +1,11 @@
 -- What the checks of a call give the code behind them.
-use Prim.Native.Nat.{ℕ, _-_, _^_, _≤_}
+use Prim.Native.Nat.{ℕ, _-_, _^_}
 use native.Mathlib.Omega.{arith}
-use mathlib.Core.Path.{_≡_, refl, sym, ap, ap₂, subst, _∙_}
+use mathlib.Core.Path.{_≡_, refl, sym, ap, ap₂, _∙_}
 use mathlib.Core.Logic.{Iff·trans}
 use mathlib.Core.Bool.{Bool, true, false, So, _&&_}
 use mathlib.Core.List.{List}
 use lib.ListN.{length}
-use Rattle.meaning.specs.Formula.{parts}
 use Rattle.words.specs.Truth.{and-says, says-and, says-same}
 use Rattle.pairs.specs.declared.Pairs.{Pairs}
 use Rattle.pairs.specs.Sets.{Words, joinOf}
@@ -24,14 +23,10 @@ use Rattle.syntax.specs.declared.Rule.{Rule}
 use Rattle.log.specs.declared.Event.{Event}
 use Rattle.log.specs.Legal.{seenOf, legalOf, legal-exactly}
 use Rattle.truth.specs.Shape.{partsIn}
-use Rattle.truth.specs.Ready.{Ready}
-use Rattle.truth.specs.declared.tables.Tables.{Tables}
-use Rattle.truth.specs.Tables.{tablesOf}
-use Rattle.truth.specs.Right.{RightTables}
-use Rattle.truth_laws.specs.TablesRight.{tables-right}
 use Rattle.checks.specs.Checks.{andThen, unless, inputOutcome, pairsFit}
 use Rattle.checks.specs.Exactly.{fit-is, join-says, chain-accepts, unless-accepts}
-use Rattle.checks.proofs.Input.{Input, input-accepted}
+use Rattle.checks.proofs.Input.{Input}
+use Rattle.checks.proofs.Given.{accepted, right, parts-is}
 use Rattle.monitor.specs.declared.Monitor.{Monitor}
 use Rattle.monitor.specs.declared.Watched.{Watched}
 use Rattle.monitor.specs.Calls.{modelOf, monitorOf, eventOf, none, lampOf, watched, lit, table, formula, checkedOf, openOf, lookOf, stepChecked, stepOf}
@@ -41,11 +36,6 @@ use Rattle.monitor.specs.Right.{opened-right, stepped-right}
 
 abbrev watchedWith : Answer → Monitor → Watched
 watchedWith a m = record { answer = a; monitor = m }
-
--- what is ready has few parts
-pub few-parts : {t : Tables} {label : List ℕ} {rule : Rule} → t ≡ tablesOf label rule → Ready label rule → t .parts ≤ 6
-unfolding tablesOf
-few-parts e ok = subst (λ (u : Tables). u .parts ≤ 6) (sym e) (ok .few)
 
 -- a new monitor with its lamp
 lighted : (old : Monitor) (n : model.Monitor) {m : Monitor} {a : Answer} → m ≡ monitorOf n → a ≡ lampOf (modelOf m) → watchedWith a m ≡ watched Accepted old n
@@ -68,44 +58,27 @@ module _ (p : Plant) (fair label next : List ℕ) (rule : Rule) where
   -- ---- an accepted table and rule
 
   module _ (i : Input p fair label next rule) where
-    pub right : RightTables (table p fair label next rule) (formula p fair label next rule) (tablesOf label rule)
-    right = tables-right (table p fair label next rule) (formula p fair label next rule) rule (i .table) (i .is) (i .small) (i .few) (i .below)
-
-    pub parts-is : partsIn rule ≡ parts (formula p fair label next rule)
-    unfolding tablesOf
-    parts-is = right .count
-
-    pub ready : Ready label rule
-    ready = record {
-      labels = omega (arith, i .table .labels, i .table .few-states);
-      long = subst (λ (r : Rule). r .len ≤ 32) (sym (i .is)) (i .small);
-      few = omega (arith, parts-is, i .few);
-    }
-
     -- the tests of two sets of pairs, by the numbers that the code has for states and valuations
     pub fits-are : {k s n : ℕ} {x y : Bool} (one two : List ℕ) → k ≡ partsIn rule → s ≡ 2 ^ p .states - 1 → n ≡ 2 ^ k → x ≡ pairsFit one s n → y ≡ pairsFit two s n
         → (x && y) ≡ (fitOf p fair label next rule one && fitOf p fair label next rule two)
     fits-are one two ek es en ex ey =
-        let many = en ∙ ap (λ (j : ℕ). 2 ^ j) (ek ∙ parts-is) in
+        let many = en ∙ ap (λ (j : ℕ). 2 ^ j) (ek ∙ parts-is i) in
         ap₂ _&&_ (ex ∙ ap₂ (pairsFit one) es many) (ey ∙ ap₂ (pairsFit two) es many)
 
   module _ (full : length (rule .nodes) ≡ 32) where
-    pub accepted : {o : Outcome} → o ≡ inputOutcome p fair label next rule → o ≡ Accepted → Input p fair label next rule
-    accepted e a = input-accepted p fair label next rule full .0 (sym e ∙ a)
-
     -- a chain behind the check of table and rule, by what is so if they are accepted
     behind : (a b : Outcome) → (Input p fair label next rule → a ≡ b) → andThen (inputOutcome p fair label next rule) a ≡ andThen (inputOutcome p fair label next rule) b
     behind a b h = go (inputOutcome p fair label next rule) refl
       where
         go : (o : Outcome) → o ≡ inputOutcome p fair label next rule → andThen o a ≡ andThen o b
-        go Accepted e = h (accepted e refl)
+        go Accepted e = h (accepted p fair label next rule full e refl)
         go (Refused r) e = refl
 
     -- of checks 1, 2 and 9
     both-accepted : (sets : Bool) → checkedOf p fair label next rule sets ≡ Accepted → Input p fair label next rule × So sets
     both-accepted sets e =
         let (i, o) = chain-accepts (inputOutcome p fair label next rule) (unless sets Value) .0 e in
-        (accepted refl i, unless-accepts sets Value .0 o)
+        (accepted p fair label next rule full refl i, unless-accepts sets Value .0 o)
 
     -- the code's checks are those of the model
     pub held-is : {one two : List ℕ} → Words one → Words two → heldOf p fair label next rule one two ≡ checkedOf p fair label next rule (fine one && fine two)

@@ -1,21 +1,16 @@
 -- What tables must hold, so that moves, goals and openings worked out with them are those of the rule f.
-use Prim.Native.Nat.{ℕ, _^_, _≤_, _<_}
+use Prim.Native.Nat.{ℕ, _^_, _<_}
 use mathlib.Core.Path.{_≡_}
 use mathlib.Core.Bool.{true, false}
 use lib.ListN.{getD}
 use Rattle.meaning.specs.Bit.{bit}
-use Rattle.meaning.specs.Formula.{Formula, size, parts}
+use Rattle.meaning.specs.Formula.{Formula, parts}
 use Rattle.meaning.specs.Run.{Plant}
-use Rattle.meaning.specs.Limits.{AcceptedTable}
-use Rattle.syntax.specs.declared.Rule.{Rule}
-use Rattle.syntax.specs.Print.{Below}
-use Rattle.syntax.specs.Value.{ruleOf}
 use Rattle.theory.specs.Move.{settled}
 use Rattle.theory.specs.Parts.{partOf}
 use Rattle.model.specs.Values.{Shows}
 use Rattle.model.specs.Tables.{Rows, unfolds, isNext, operandOf}
 use Rattle.truth.specs.declared.tables.Tables.{Tables}
-use Rattle.truth.specs.Tables.{tablesOf}
 
 pub record RightTables (T : Plant) (f : Formula) (t : Tables) : Type 0 where
   -- as many parts, and which of them are X
@@ -31,8 +26,3 @@ pub record RightTables (T : Plant) (f : Formula) (t : Tables) : Type 0 where
   -- where the rule holds
   pub holds : (v : ℕ) → v < 64 → Shows T f 0 v (getD (t .holds) v 0)
   pub words : (v : ℕ) → getD (t .holds) v 0 < 2 ^ 64
-
--- the law that TablesRight proves: whatever the table and the rule that the calls accept, the tables worked out are right
-abbrev pub AllRight : Type 0
-AllRight = (T : Plant) (f : Formula) (rule : Rule) → AcceptedTable T → rule ≡ ruleOf f → size f ≤ 32 → parts f ≤ 6 → Below (T .props) f
-    → RightTables T f (tablesOf (T .label) rule)

@@ -29,9 +29,10 @@ use Rattle.truth.specs.Ready.{Ready}
 use Rattle.truth.specs.Shape.{kindsOf, nextsIn, partsIn, orderIn}
 use Rattle.truth.specs.Nodes.{wordAt, holdsOf}
 use Rattle.truth.specs.declared.rows.Asked.{Asked}
+use Rattle.truth.specs.declared.tables.Tables.{Tables}
 use Rattle.truth.specs.declared.rows.Asked.the-variants.{Low, High, Operand, Settled}
 use Rattle.truth.specs.Tables.{wordsIn, rowsIn, tablesOf}
-use Rattle.truth.specs.Right.{RightTables, AllRight}
+use Rattle.truth.specs.Right.{RightTables}
 use Rattle.truth_laws.specs.Tree.{treeOf, nodesIn, nodes-tree, count-tree}
 use Rattle.truth_laws.specs.Stands.{rule-stands}
 use Rattle.truth_laws.specs.Numbers.{parts-in}
@@ -107,5 +108,12 @@ tables-ready T f rule A e few six = subst (λ (r : Rule). Ready (T .label) r) (s
   few = omega (arith, count f few);
 })
 
-pub tables-right : AllRight
+-- the parts of a rule for which they may are few
+pub few-parts : {t : Tables} {label : List ℕ} {rule : Rule} → t ≡ tablesOf label rule → Ready label rule → t .parts ≤ 6
+unfolding tablesOf
+few-parts e ok = subst (λ (t : Tables). t .parts ≤ 6) (sym e) (ok .few)
+
+-- whatever the table and the rule that the calls accept, the tables worked out are right
+pub tables-right : (T : Plant) (f : Formula) (rule : Rule) → AcceptedTable T → rule ≡ ruleOf f → size f ≤ 32 → parts f ≤ 6 → Below (T .props) f
+    → RightTables T f (tablesOf (T .label) rule)
 tables-right T f rule A e few six below = subst (λ (r : Rule). RightTables T f (tablesOf (T .label) r)) (sym e) (right T f A few six below)

@@ -1,6 +1,5 @@
 -- What the checks give the code behind them, and what the answers are.
 use Prim.Native.Nat.{ℕ, _≤_, _<_}
-use native.Mathlib.Omega.{arith}
 use mathlib.Core.Path.{_≡_, refl, sym, ap, ap₂, subst, _∙_}
 use mathlib.Core.Bool.{Bool, true, false, So, _&&_, not}
 use mathlib.Core.List.{List}
@@ -29,12 +28,12 @@ use Rattle.truth.specs.Ready.{Ready}
 use Rattle.truth.specs.Tables.{tablesOf}
 use Rattle.checks.specs.Checks.{unless, inputOutcome}
 use Rattle.checks.specs.Exactly.{first-refuses, first-passes, test-passes, test-fails, chain-accepts, unless-accepts}
-use Rattle.checks.proofs.Input.{Input, input-accepted}
+use Rattle.checks.proofs.Input.{Input}
+use Rattle.checks.proofs.Given.{accepted, right, ready}
 use Rattle.live.specs.declared.Prepared.{Prepared}
 use Rattle.live.specs.Prepare.{preparedAs, preparedOf}
 use Rattle.monitor.specs.declared.Monitor.{Monitor}
 use Rattle.monitor.specs.Calls.{modelOf, lit, checkedOf, lookOf}
-use Rattle.monitor.proofs.Given.{right, ready}
 use Rattle.walk.specs.declared.Lengths.{Lengths}
 use Rattle.walk.specs.Legs.{Walked}
 use Rattle.witness.specs.declared.Witnessed.the-variants as Answers
@@ -106,7 +105,7 @@ module _ (p : Plant) (fair label next : List ℕ) (rule : Rule) (m : Monitor) wh
       input-passed = chain-accepts (inputOutcome p fair label next rule) (unless fine Value) .0 (passed .0) .0
 
       input : Input p fair label next rule
-      input = input-accepted p fair label next rule full .0 input-passed
+      input = accepted p fair label next rule full refl input-passed
 
       module _ {prepared : Prepared} (h : prepared ≡ preparedOf p fair label next rule) {asked : List ℕ} (s : asked ≡ asks)
           {both : List ℕ} (b : both ≡ meetOf asked (prepared .live .words)) {none : Bool} (k : none ≡ emptyOf both) where
@@ -126,18 +125,18 @@ module _ (p : Plant) (fair label next : List ℕ) (rule : Rule) (m : Monitor) wh
         -- what the walk asks for
         pub in-order : Ready label rule × (length fair ≤ 4) × (length (prepared .live .words) ≡ 64) × (49152 ≤ length before)
         in-order = (
-          ready p fair label next rule input,
+          ready input,
           input .table .few-fair,
           ap length is-live ∙ live-set _ _ (input .table) (input .few) .long,
           ltb-false (length before) 49152 (not-true _ (unless-accepts (not (ltb (length before) 49152)) Room .0 (passed .1))),
         )
 
         pub goes-on : Fair (movesIn (tablesOf label rule) next) (debtsIn (tablesOf label rule) fair) (nodesOf (prepared .live .words))
-        goes-on = rw is-live (run-is-fair _ _ (input .table) (input .few) (tablesOf label rule) (right p fair label next rule input))
+        goes-on = rw is-live (run-is-fair _ _ (input .table) (input .few) (tablesOf label rule) (right input))
 
         module _ (n : none ≡ false) where
           pub begins : (y : ℕ) × (So (nodesOf asked y) × So (nodesOf (prepared .live .words) y))
-          begins = rw (is-live, s) (run-begins _ _ (input .table) (input .few) (tablesOf label rule) (right p fair label next rule input) asks (has-some ∙ ap not n))
+          begins = rw (is-live, s) (run-begins _ _ (input .table) (input .few) (tablesOf label rule) (right input) asks (has-some ∙ ap not n))
 
           pub answers : {l : Lengths} {now : List ℕ}
               → Walked (movesIn (tablesOf label rule) next) (debtsIn (tablesOf label rule) fair) (nodesOf (prepared .live .words)) (nodesOf asked) before now (l .stem) (l .turn)
@@ -145,4 +144,4 @@ module _ (p : Plant) (fair label next : List ℕ) (rule : Rule) (m : Monitor) wh
           unfolding witnessOutcome
           answers {l} {now} w = subst (λ (x : Outcome). AnsweredAs (table p fair label next rule m) (formula p fair label next rule m) asks x before now (Answers.Run l))
               (test-passes NoPair (has-some ∙ ap not n) refl ∙ first-passes (unless some NoPair) e g)
-              (l, refl, run-shows _ _ (input .table) (input .few) (tablesOf label rule) (right p fair label next rule input) (rw (is-live, s) at w))
+              (l, refl, run-shows _ _ (input .table) (input .few) (tablesOf label rule) (right input) (rw (is-live, s) at w))

@@ -1,6 +1,7 @@
 -- `live_pairs`: by what its calls ensure, one after the other.
 use borrow.Author.Needs.{needs}
-use Rattle.live.specs.Right.{few-parts, live-is}
+use Rattle.truth_laws.specs.TablesRight.{few-parts}
+use Rattle.live.specs.Right.{live-is}
 use Rattle.live.proofs.live_pairs.Statement.{statement}
 use Rattle.live.proofs.live_pairs.Tie as tie
 

@@ -1,7 +1,8 @@
 -- `prepare`: the checks, and behind them the live set.
 use borrow.Author.Needs.{needs}
 use Rattle.syntax.proofs.Held.{full}
-use Rattle.live.proofs.Given.{in-order, refused, accepted, prepared}
+use Rattle.checks.proofs.Given.{accepted}
+use Rattle.live.proofs.Given.{in-order, refused, prepared}
 use Rattle.live.proofs.prepare.Statement.{statement}
 use Rattle.live.proofs.prepare.Tie as tie
 

@@ -6,7 +6,8 @@ use Rattle.answers.specs.declared.Kind.the-variants.{Value}
 use Rattle.checks.specs.Exactly.{first-refuses, first-passes, test-passes, test-fails}
 use Rattle.syntax.proofs.Held.{full}
 use Rattle.monitor.specs.Checked.{heldOf}
-use Rattle.monitor.proofs.Given.{accepted, ready, fits-are}
+use Rattle.checks.proofs.Given.{accepted, ready}
+use Rattle.monitor.proofs.Given.{fits-are}
 use Rattle.monitor.proofs.check_held.Statement.{statement}
 use Rattle.monitor.proofs.check_held.Tie as tie
 
@@ -24,7 +25,7 @@ parts-of-requires c κs =
     let start = told .before .before .before .before in
     let a = start .args in
     let i = accepted (a .plant) (a .fair .now) (a .label .now) (a .next .now) (a .rule) (full (a .rule .nodes) (start .good .1 .1 .1 .1 .0 .1 .1 .1 .0)) (told .check-input .ensures) (c .before .enum-told .given .1) in
-    ready (a .plant) (a .fair .now) (a .label .now) (a .next .now) (a .rule) i .long
+    ready i .long
 
 valuations-requires : tie.Need-valuations-requires
 valuations-requires c κs =
@@ -32,7 +33,7 @@ valuations-requires c κs =
     let start = told .before .before .before .before in
     let a = start .args in
     let i = accepted (a .plant) (a .fair .now) (a .label .now) (a .next .now) (a .rule) (full (a .rule .nodes) (start .good .1 .1 .1 .1 .0 .1 .1 .1 .0)) (told .check-input .ensures) (c .before .before .enum-told .given .1) in
-    omega (arith, c .parts-of .ensures, ready (a .plant) (a .fair .now) (a .label .now) (a .next .now) (a .rule) i .few)
+    omega (arith, c .parts-of .ensures, ready i .few)
 
 returns : tie.Need-returns
 unfolding heldOf

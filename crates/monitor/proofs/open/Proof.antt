@@ -2,7 +2,8 @@
 use borrow.Author.Needs.{needs}
 use Rattle.syntax.proofs.Held.{full}
 use Rattle.monitor.proofs.Words.{words-of}
-use Rattle.monitor.proofs.Given.{ready, open-input, not-opened, is-opened}
+use Rattle.checks.proofs.Given.{ready}
+use Rattle.monitor.proofs.Given.{open-input, not-opened, is-opened}
 use Rattle.monitor.proofs.open.Statement.{statement}
 use Rattle.monitor.proofs.open.Tie as tie
 
@@ -11,7 +12,7 @@ opened-requires c κs =
     let told = c .before .before in
     let start = told .before .before .before .before .before .before .before in
     let a = start .args in
-    ready (a .plant) (a .fair .now) (a .label .now) (a .next .now) (a .rule)
+    ready
     (open-input (a .plant) (a .fair .now) (a .label .now) (a .next .now) (a .rule) (full (a .rule .nodes) (start .good .1 .1 .1 .1 .0 .1 .1 .1 .0))
     (a .t6) (words-of (a .t6 .words) (start .good .1 .1 .1 .1 .1 .0 .1 .1 .0)) (told .check-held .ensures) (c .enum-told .given .1))
 

@@ -2,7 +2,8 @@
 use borrow.Author.Needs.{needs}
 use Rattle.syntax.proofs.Held.{full}
 use Rattle.monitor.proofs.Words.{words-of}
-use Rattle.monitor.proofs.Given.{ready, step-input, not-stepped, is-stepped}
+use Rattle.checks.proofs.Given.{ready}
+use Rattle.monitor.proofs.Given.{step-input, not-stepped, is-stepped}
 use Rattle.monitor.proofs.step.Statement.{statement}
 use Rattle.monitor.proofs.step.Tie as tie
 
@@ -11,7 +12,7 @@ stepped-requires c κs =
     let told = c .before .before in
     let start = told .before .before .before .before in
     let a = start .args in
-    ready (a .plant) (a .fair .now) (a .label .now) (a .next .now) (a .rule)
+    ready
     (step-input (a .plant) (a .fair .now) (a .label .now) (a .next .now) (a .rule) (full (a .rule .nodes) (start .good .1 .1 .1 .1 .0 .1 .1 .1 .0)) (a .live) (a .monitor) (a .event)
     (words-of (a .live .words) (start .good .1 .1 .1 .1 .1 .0 .1 .1 .0)) (words-of (a .monitor .keeps .words) (start .good .1 .1 .1 .1 .1 .1 .0 .1 .1 .1 .0 .1 .1 .0)) (words-of (a .monitor .breaks .words) (start .good .1 .1 .1 .1 .1 .1 .0 .1 .1 .1 .1 .0 .1 .1 .0))
     (told .check-step .ensures) (c .enum-told .given .1))

@@ -4,7 +4,7 @@ use mathlib.Core.Bool.{true}
 use borrow.Author.Needs.{needs}
 use Rattle.monitor.specs.Sides.{sidesOf, movedOf}
 use Rattle.monitor.specs.Right.{image-is}
-use Rattle.monitor.proofs.Given.{few-parts}
+use Rattle.truth_laws.specs.TablesRight.{few-parts}
 use Rattle.monitor.proofs.sides.moved.Statement.{statement}
 use Rattle.monitor.proofs.sides.moved.Tie as tie
 

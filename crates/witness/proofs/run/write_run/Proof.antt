@@ -1,6 +1,6 @@
 -- `write_run`: by what its calls ensure, one after the other.
 use borrow.Author.Needs.{needs}
-use Rattle.live.specs.Right.{few-parts}
+use Rattle.truth_laws.specs.TablesRight.{few-parts}
 use Rattle.witness.specs.Run.{run-fair, run-walked}
 use Rattle.witness.proofs.run.write_run.Statement.{statement}
 use Rattle.witness.proofs.run.write_run.Tie as tie

@@ -1,0 +1,34 @@
+-- What an accepted table and rule give the code behind the checks: tables worked out from the rule are right, and their loops may run.
+use mathlib.Core.Path.{_≡_, sym, _∙_}
+use mathlib.Core.List.{List}
+use Prim.Native.Nat.{ℕ}
+use lib.ListN.{length}
+use Rattle.meaning.specs.Formula.{parts}
+use Rattle.answers.specs.declared.Outcome.{Outcome}
+use Rattle.answers.specs.declared.Outcome.the-variants.{Accepted}
+use Rattle.plant.specs.declared.Plant.{Plant}
+use Rattle.plant.specs.Table.{plantOf}
+use Rattle.syntax.specs.declared.Rule.{Rule}
+use Rattle.truth.specs.Shape.{partsIn}
+use Rattle.truth.specs.Ready.{Ready}
+use Rattle.truth.specs.Tables.{tablesOf}
+use Rattle.truth.specs.Right.{RightTables}
+use Rattle.truth_laws.specs.TablesRight.{tables-ready, tables-right}
+use Rattle.checks.specs.Checks.{formulaOf, inputOutcome}
+use Rattle.checks.proofs.Input.{Input, input-accepted}
+
+-- the checks accepted
+pub accepted : (p : Plant) (fair label next : List ℕ) (rule : Rule) → length (rule .nodes) ≡ 32
+    → {o : Outcome} → o ≡ inputOutcome p fair label next rule → o ≡ Accepted → Input p fair label next rule
+accepted p fair label next rule full e f = input-accepted p fair label next rule full .0 (sym e ∙ f)
+
+module _ {p : Plant} {fair label next : List ℕ} {rule : Rule} (i : Input p fair label next rule) where
+  pub right : RightTables (plantOf p fair label next) (formulaOf rule) (tablesOf label rule)
+  right = tables-right (plantOf p fair label next) (formulaOf rule) rule (i .table) (i .is) (i .small) (i .few) (i .below)
+
+  pub parts-is : partsIn rule ≡ parts (formulaOf rule)
+  unfolding tablesOf
+  parts-is = right .count
+
+  pub ready : Ready label rule
+  ready = tables-ready (plantOf p fair label next) (formulaOf rule) rule (i .table) (i .is) (i .small) (i .few)
