@@ -21,7 +21,6 @@ use Rattle.syntax.specs.Value.{ruleOf}
 use Rattle.syntax.proofs.OnePlace.{one-place, one-unknown}
 use Rattle.syntax.proofs.Parse.{one-rule}
 use Rattle.syntax.proofs.Printed.{printed, short, below-more}
-use Rattle.rule.specs.declared.RuleRead.{RuleRead}
 use Rattle.rule.specs.declared.Printed.{Printed}
 use Rattle.rule.specs.declared.Printed.the-variants.{Text, Refused as NoText}
 use Rattle.rule.specs.Reading.{refusedAs, accepted, textRead, ruleRead}
@@ -139,15 +138,3 @@ module _ (r : Rule) (old : List ℕ) (full : length (r .nodes) ≡ 32) where
       go (no-rule h) = answer-none r old full h .1
       go (no-room v h) = answer-room r old v h .1
       go (its-text v h) = absurd (subst T (ap isText (sym (answer-text r old v h .0) ∙ e)) tt)
-
--- EACH CONTRACT DETERMINES ITS ANSWER: two that it allows are the same
-
-pub one-reading : (p : Plant) (fair label next s : List ℕ) (a b : RuleRead) → a ≡ ruleRead p fair label next s → b ≡ ruleRead p fair label next s → a ≡ b
-one-reading p fair label next s a b e f = e ∙ sym f
-
-pub one-check : (r : Rule) (q : ℕ) (a b : Bool) → a ≡ validOf r q → b ≡ validOf r q → a ≡ b
-one-check r q a b e f = e ∙ sym f
-
-pub one-printing : (r : Rule) (old : List ℕ) (a b : Printed) (x y : List ℕ) → a ≡ printAnswer r old → x ≡ printBuffer r old → b ≡ printAnswer r old → y ≡ printBuffer r old
-    → (a ≡ b) × (x ≡ y)
-one-printing r old a b x y e g f h = (e ∙ sym f, g ∙ sym h)

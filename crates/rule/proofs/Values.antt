@@ -157,10 +157,6 @@ valid-rule r q full h =
 pub valid-exactly : (r : Rule) (q : ℕ) → length (r .nodes) ≡ 32 → (validOf r q ≡ true) ↔ RuleValue r q
 valid-exactly r q full = (λ h. valid-rule r q full h, λ v. rule-valid v)
 
--- the rule of an accepted value, by reading its nodes; and its parts, by counting them
-module _ {r : Rule} {q : ℕ} (v : RuleValue r q) where
-  pub decoded : decode (held r) [] ≡ v .formula ∷ []
-  decoded = ap (λ x. decode (held x) []) (v .is) ∙ decode-held (v .formula)
-
-  pub counted : count (held r) ≡ parts (v .formula)
-  counted = same-parts r (v .formula) (v .is)
+-- the rule of an accepted value, by reading its nodes
+pub decoded : {r : Rule} {q : ℕ} (v : RuleValue r q) → decode (held r) [] ≡ v .formula ∷ []
+decoded v = ap (λ x. decode (held x) []) (v .is) ∙ decode-held (v .formula)

@@ -2,7 +2,7 @@
 use Prim.Native.Nat.{ℕ, zero, suc, _+_, _≤_, _<_}
 use mathlib.Core.Path.{_≡_, refl, sym, ap, _∙_}
 use mathlib.Core.List.{List, [], _∷_, _++_, append-assoc, append-nil}
-use mathlib.Core.Bool.{Bool, true, false}
+use mathlib.Core.Bool.{Bool, false}
 use native.Mathlib.Omega.{arith}
 use borrow.Author.Tests.{ne-eqb}
 use Rattle.meaning.specs.Formula.{Formula}
@@ -53,10 +53,6 @@ unheard k (End ∷ ts) h g = ne-eqb 8 k (λ e. omega arith)
 not-picked : {b : Bool} (x y : Got) → b ≡ false → pick b x y ≡ y
 unfolding pick
 not-picked x y h = rw h
-
-picked : {b : Bool} (x y : Got) → b ≡ true → pick b x y ≡ x
-unfolding pick
-picked x y h = rw h
 
 -- tokens that begin with no operator of the level are left
 quiet : (l : Level) (ts : List Token) → front ts ≤ rank l → Ev (λ n. more n l ts ≡ stay ts)
