@@ -17,7 +17,6 @@ use Rattle.pairs.specs.Sets.{emptyOf}
 use Rattle.model.specs.Monitor as model
 use Rattle.model.specs.Sets.{PairSet}
 use Rattle.model.specs.Checks.{pairsOk, pairs-says, eventOk, legal-says}
-use Rattle.model.specs.Log as log
 use Rattle.answers.specs.declared.Kind.the-variants.{Counts, Bits, Value, Event as EventKind}
 use Rattle.answers.specs.declared.Refusal.{Refusal}
 use Rattle.answers.specs.declared.Answer.the-variants as Answers

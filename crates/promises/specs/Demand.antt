@@ -9,7 +9,6 @@ use Rattle.meaning.specs.Formula.{Formula}
 use Rattle.meaning.specs.Run.{Lasso}
 use Rattle.meaning.specs.Run as run
 use Rattle.meaning.specs.Event.{History, since, now}
-use Rattle.meaning.specs.Event as meaning
 use Rattle.meaning.specs.Pair.{Live}
 use Rattle.meaning.specs.Verdict.{Chosen, At, CanBe, Right}
 use Rattle.words.specs.Below.{countBelow}

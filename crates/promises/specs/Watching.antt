@@ -13,7 +13,6 @@ use Rattle.model.specs.Lives.{live-set}
 use Rattle.model.specs.Sets.{PairSet}
 use Rattle.model.specs.Rule.{opening-sets, step-sets}
 use Rattle.model.specs.Monitor as model
-use Rattle.answers.specs.declared.Kind.the-variants as Kinds
 use Rattle.plant.specs.declared.Plant.{Plant}
 use Rattle.plant.specs.Table.{plantOf}
 use Rattle.syntax.specs.declared.Rule.{Rule}

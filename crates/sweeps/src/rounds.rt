@@ -3,7 +3,7 @@ use crate::movers::movers;
 use crate::reach::reaching;
 use pairs::Pairs;
 ghost use mathlib.Core.Path.{_≡_};
-ghost use Prim.Native.Nat.{_+_, _^_, _≤_, _<_};
+ghost use Prim.Native.Nat.{_+_, _≤_, _<_};
 ghost use lib.ListN.{length};
 ghost use Rattle.sweeps.specs.Rounds.{everyOf, settledIn, goalOf, roundOf, settleOf};
 

@@ -12,8 +12,6 @@ use sweeps::reach::meet;
 use syntax::Rule;
 use walk::Lengths;
 ghost use mathlib.Core.Path.{_≡_};
-ghost use Prim.Native.Nat.{ℕ};
-ghost use lib.ListN.{length};
 ghost use Rattle.model.specs.Monitor as model;
 ghost use Rattle.monitor.specs.Calls.{modelOf};
 ghost use Rattle.witness.specs.Calls.{askedOf, Answered};

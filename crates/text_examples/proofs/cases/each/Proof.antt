@@ -1,7 +1,6 @@
 -- `text_examples::cases::each`. Each case is within the input.
 use Prim.Native.Nat.{_-_, _≤_}
 use lib.ListN.{length}
-use native.Mathlib.Omega.{arith}
 use borrow.Author.Needs.{needs}
 use Rattle.text_examples.proofs.cases.each.Statement.{statement}
 use Rattle.text_examples.proofs.cases.each.Tie as tie

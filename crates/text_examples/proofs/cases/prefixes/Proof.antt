@@ -1,7 +1,6 @@
 -- `text_examples::cases::prefixes`. Each prefix is within the text.
 use Prim.Native.Nat.{_-_, _≤_}
 use mathlib.Core.Path.{sym}
-use native.Mathlib.Omega.{arith}
 use lib.ListN.{length}
 use lib.Seq.{length-take-le}
 use borrow.Author.Needs.{needs}
