@@ -4,14 +4,9 @@ use borrow.Author.Needs.{needs}
 use Rattle.printer.proofs.put_byte.Statement.{statement}
 use Rattle.printer.proofs.put_byte.Tie as tie
 
-slice-write-buffer : tie.Need-slice-write-buffer
-slice-write-buffer c = search needs
-
-same-length : tie.Need-same-length
-same-length c = search needs
-
 returns : tie.Need-returns
 returns c = wrote-byte _ _ _ (c .pre)
 
 pub put-byte-spec : {M : Type 1} → statement M
-put-byte-spec = tie.close (tie.spec slice-write-buffer same-length returns)
+put-byte-spec = tie.close (tie.spec
+    (λ c. search needs) (λ c. search needs) returns)

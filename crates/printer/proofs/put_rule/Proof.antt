@@ -5,9 +5,6 @@ use Rattle.printer.proofs.Printing.{short, room-is, same-room, printing
 use Rattle.printer.proofs.put_rule.Statement.{statement}
 use Rattle.printer.proofs.put_rule.Tie as tie
 
-room-of-requires : tie.Need-room-of-requires
-room-of-requires c κs = search needs
-
 put-tree-requires : tie.Need-put-tree-requires
 put-tree-requires c κs =
     let p = c .before .before .before .pre in
@@ -17,11 +14,9 @@ put-tree-requires c κs =
       fits = omega (arith, c .before .room-of .ensures, room-is (p .shows), p .fits);
     }
 
-same-length : tie.Need-same-length
-same-length c = search needs
-
 returns : tie.Need-returns
 returns c = printing (c .before .before .before .before .room-of .ensures) (c .before .before .put-tree .ensures)
 
 pub put-rule-spec : {M : Type 1} → statement M
-put-rule-spec = tie.close (tie.spec room-of-requires put-tree-requires same-length returns)
+put-rule-spec = tie.close (tie.spec
+    (λ c κs. search needs) put-tree-requires (λ c. search needs) returns)
