@@ -14,6 +14,7 @@ use lib.ListN.{length, getD}
 use lib.Pow.{pow-pos, shr-shr}
 use Rattle.meaning.specs.Bit.{bit}
 use Rattle.meaning.specs.Limits.{Sets, AcceptedTable}
+use Rattle.text.specs.Cases.{below-or-beyond}
 use Rattle.words.specs.Below.{unionBelow}
 use Rattle.words.specs.Truth.{and-says}
 use Rattle.words.specs.Tests.{below-cases}
@@ -27,13 +28,6 @@ use Rattle.plant.specs.declared.Plant.{Plant}
 use Rattle.plant.specs.Table.{plantOf, countsOf, bitsOf, united, refusedAs, tableOutcome, Lengths, Beyond, BitBeyond, in-start, in-fair, in-label, in-next}
 
 -- ---- sets below a bound
-
-below-or-not : (m n : ℕ) → (m < n) ⊎ (n ≤ m)
-below-or-not m n = by-test (ltb m n) refl
-  where
-    by-test : (b : Bool) → ltb m n ≡ b → (m < n) ⊎ (n ≤ m)
-    by-test true e = inl (ltb-true m n e)
-    by-test false e = inr (ltb-false m n e)
 
 -- a union is below a power of 2 exactly if both sets are
 or-below : (n a b : ℕ) → (bitOr a b < 2 ^ n) ↔ ((a < 2 ^ n) × (b < 2 ^ n))
@@ -65,7 +59,7 @@ beyond-exactly n x = (there, back)
         record { name = n + w .0; beyond = omega arith; named = rw shr-shr at (w .1) }
 
     back : Beyond n x → 2 ^ n ≤ x
-    back b = ⊎-elim (λ (l : x < 2 ^ n). absurd (false≢true (sym (bit-above n l (b .beyond)) ∙ b .named))) (λ (l : 2 ^ n ≤ x). l) (below-or-not x (2 ^ n))
+    back b = ⊎-elim (λ (l : x < 2 ^ n). absurd (false≢true (sym (bit-above n l (b .beyond)) ∙ b .named))) (λ (l : 2 ^ n ≤ x). l) (below-or-beyond x (2 ^ n))
 
 -- up to 2 ^ n - 1 is below 2 ^ n
 pub up-to : (n x : ℕ) → leb x (2 ^ n - 1) ≡ ltb x (2 ^ n)
@@ -160,9 +154,9 @@ module _ (p : Plant) (fair label next : List ℕ) where
           ⊎-elim
           (λ (a : unionBelow m (λ i. getD l i 0) < 2 ^ n). ⊎-elim
           (λ (b : getD l m 0 < 2 ^ n). absurd (let c = or-lt n (unionBelow m (λ i. getD l i 0)) (getD l m 0) a b in omega arith))
-          (λ (b : 2 ^ n ≤ getD l m 0). (m, omega arith, beyond-exactly n (getD l m 0) .0 b)) (below-or-not (getD l m 0) (2 ^ n)))
+          (λ (b : 2 ^ n ≤ getD l m 0). (m, omega arith, beyond-exactly n (getD l m 0) .0 b)) (below-or-beyond (getD l m 0) (2 ^ n)))
           (λ (a : 2 ^ n ≤ unionBelow m (λ i. getD l i 0)). let (i, lt, b) = found m a in (i, omega arith, b))
-          (below-or-not (unionBelow m (λ i. getD l i 0)) (2 ^ n))
+          (below-or-beyond (unionBelow m (λ i. getD l i 0)) (2 ^ n))
 
   bits-beyond : (bitsOf p fair label next ≡ false) ↔ BitBeyond p fair label next
   bits-beyond = (there, back)
@@ -173,10 +167,10 @@ module _ (p : Plant) (fair label next : List ℕ) where
           (λ (c : united label < 2 ^ p .props). ⊎-elim
           (λ (d : united next < 2 ^ p .states). absurd (false≢true (sym e ∙ bits-within .1
           (a, united-below (p .states) fair .0 b, united-below (p .props) label .0 c, united-below (p .states) next .0 d))))
-          (λ (d : 2 ^ p .states ≤ united next). let (i, lt, b) = united-beyond (p .states) next d in in-next i lt b) (below-or-not (united next) (2 ^ p .states)))
-          (λ (c : 2 ^ p .props ≤ united label). let (i, lt, b) = united-beyond (p .props) label c in in-label i lt b) (below-or-not (united label) (2 ^ p .props)))
-          (λ (b : 2 ^ p .states ≤ united fair). let (i, lt, b) = united-beyond (p .states) fair b in in-fair i lt b) (below-or-not (united fair) (2 ^ p .states)))
-          (λ (a : 2 ^ p .states ≤ p .start). in-start (beyond-exactly (p .states) (p .start) .0 a)) (below-or-not (p .start) (2 ^ p .states))
+          (λ (d : 2 ^ p .states ≤ united next). let (i, lt, b) = united-beyond (p .states) next d in in-next i lt b) (below-or-beyond (united next) (2 ^ p .states)))
+          (λ (c : 2 ^ p .props ≤ united label). let (i, lt, b) = united-beyond (p .props) label c in in-label i lt b) (below-or-beyond (united label) (2 ^ p .props)))
+          (λ (b : 2 ^ p .states ≤ united fair). let (i, lt, b) = united-beyond (p .states) fair b in in-fair i lt b) (below-or-beyond (united fair) (2 ^ p .states)))
+          (λ (a : 2 ^ p .states ≤ p .start). in-start (beyond-exactly (p .states) (p .start) .0 a)) (below-or-beyond (p .start) (2 ^ p .states))
 
       not-within : Within → BitBeyond p fair label next → ⊥
       not-within w (in-start b) = let l = beyond-exactly (p .states) (p .start) .1 b in let h = w .0 in omega arith
