@@ -2,7 +2,7 @@
 use Prim.Native.Nat.{ℕ, _^_, _≤_, _<_}
 use mathlib.Core.Path.{_≡_}
 use mathlib.Core.List.{List}
-use mathlib.Core.Bool.{Bool, true, false, So, _&&_}
+use mathlib.Core.Bool.{Bool, So, _&&_, cond}
 use lib.Bits.{bitOr}
 use lib.Dec.{eqb, leb, ltb}
 use lib.ListN.{length, getD}
@@ -38,15 +38,11 @@ bitsOf p fair label next = ltb (bitOr (bitOr (p .start) (united fair)) (united n
 
 -- ---- the answer: 1 before 2
 
-abbrev pub pick : Bool → Outcome → Outcome → Outcome
-pick true a b = a
-pick false a b = b
-
 abbrev pub refusedAs : Kind → Outcome
 refusedAs k = Refused (refusedAt k 0)
 
 abbrev pub tableOutcome : Plant → List ℕ → List ℕ → List ℕ → Outcome
-tableOutcome p fair label next = pick (countsOf p (length fair) (length label) (length next)) (pick (bitsOf p fair label next) Accepted (refusedAs Bits)) (refusedAs Counts)
+tableOutcome p fair label next = cond (countsOf p (length fair) (length label) (length next)) (cond (bitsOf p fair label next) Accepted (refusedAs Bits)) (refusedAs Counts)
 
 -- ---- what 01 says
 

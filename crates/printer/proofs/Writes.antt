@@ -6,9 +6,9 @@ use native.Mathlib.Omega.{arith}
 use native.Mathlib.Numerals.{add-one}
 use lib.ListN.{length, take, drop, set, length-append, length-drop, take-append-drop}
 use lib.Seq.{set-split, take-append-le, take-take, drop-at, length-take-le}
-use mathlib.Core.Bool.{Bool, true, false}
+use mathlib.Core.Bool.{Bool, true, false, cond}
 use Rattle.syntax.specs.declared.Op.{Op}
-use Rattle.printer.specs.Tell.{wide, pickWidth, last, first, Wrote, Wording}
+use Rattle.printer.specs.Tell.{wide, last, first, Wrote, Wording}
 
 pub wrote-byte : (a : List ℕ) (i v : ℕ) → i < length a → Wrote a i (i + 1) (v ∷ []) (set a i v)
 wrote-byte a i v h = record { is = rw add-one (set-split a i v h); span = refl; fits = omega arith }
@@ -36,7 +36,7 @@ wrote-before {a} {lo} {m} {hi} {t} {u} {b} {c} p q =
     }
 
 -- a node's word
-pub some-width : (b : Bool) → 1 ≤ pickWidth b
+pub some-width : (b : Bool) → 1 ≤ cond b 2 1
 some-width true = omega arith
 some-width false = omega arith
 

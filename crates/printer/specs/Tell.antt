@@ -2,7 +2,7 @@
 use Prim.Native.Nat.{ℕ, zero, suc, _+_, _%_, _≤_, _<_}
 use mathlib.Core.Path.{_≡_}
 use mathlib.Core.List.{List, [], _∷_, _++_}
-use mathlib.Core.Bool.{Bool, true, false}
+use mathlib.Core.Bool.{Bool, true, false, cond}
 use lib.Dec.{eqb}
 use lib.ListN.{length, take, drop, getD}
 use Rattle.syntax.specs.declared.Op.{Op}
@@ -61,20 +61,12 @@ first And = 112
 first Or = 112
 first Implies = 45
 
-abbrev pub pickText : Bool → List ℕ → List ℕ → List ℕ
-pickText true a b = a
-pickText false a b = b
-
 -- a node's own word
 abbrev pub word : Op → List ℕ
-word o = pickText (wide o) (first o ∷ last o ∷ []) (last o ∷ [])
-
-abbrev pub pickWidth : Bool → ℕ
-pickWidth true = 2
-pickWidth false = 1
+word o = cond (wide o) (first o ∷ last o ∷ []) (last o ∷ [])
 
 abbrev pub width : Op → ℕ
-width o = pickWidth (wide o)
+width o = cond (wide o) 2 1
 
 -- the nodes before k, the last one first
 unfoldable pub back : List Node → ℕ → List Op
@@ -86,10 +78,6 @@ pub record Line : Type 0 where
   pub text : List ℕ
   pub rest : List Op
 
-abbrev pub pickLine : Bool → Line → Line → Line
-pickLine true a b = a
-pickLine false a b = b
-
 -- the text of the rule whose last node comes first
 unfoldable pub tell : ℕ → List Op → Line
 tell zero os = record { text = []; rest = os }
@@ -97,8 +85,8 @@ tell (suc n) [] = record { text = []; rest = [] }
 tell (suc n) (o ∷ os) =
     let r = tell n os in
     let l = tell n (r .rest) in
-    pickLine (eqb (sides o) 0) (record { text = word o; rest = os })
-    (pickLine (eqb (sides o) 1) (record { text = word o ++ r .text; rest = r .rest })
+    cond (eqb (sides o) 0) (record { text = word o; rest = os })
+    (cond (eqb (sides o) 1) (record { text = word o ++ r .text; rest = r .rest })
     (record { text = inside (l .text) (word o) (r .text); rest = l .rest }))
 
 -- b is a with t written from lo up to hi

@@ -2,7 +2,7 @@
 use Prim.Native.Nat.{ℕ, _+_, _≤_, _<_}
 use mathlib.Core.Path.{_≡_, sym, ap, _∙_}
 use mathlib.Core.List.{List}
-use mathlib.Core.Bool.{false, _&&_}
+use mathlib.Core.Bool.{false, _&&_, cond}
 use native.Mathlib.Omega.{arith}
 use borrow.Author.Tests.{eq-eqb, ne-eqb, lt-ltb, le-ltb}
 use lib.Dec.{eqb, leb}
@@ -16,7 +16,7 @@ use Rattle.syntax.specs.declared.Scan.the-variants.{Good, Bad}
 use Rattle.syntax.specs.Bytes.{signOf, digitOf}
 use Rattle.syntax.specs.Reader.{parse}
 use Rattle.syntax.specs.Scan.{scan}
-use Rattle.syntax.specs.Value.{emptyRule, choose, held, count}
+use Rattle.syntax.specs.Value.{emptyRule, held, count}
 use Rattle.syntax.proofs.Places.{byte, at-end}
 use Rattle.reader.specs.Draft.{written}
 use Rattle.rule.specs.declared.Found.the-variants.{At, Nowhere}
@@ -38,7 +38,7 @@ module _ (q : ℕ) (s : List ℕ) (i : ℕ) where
   pub unknown-digit : i + 1 < length s → getD s i 0 ≡ 112 → leb q (digitOf (signOf (getD s (i + 1) 0))) ≡ unknown q (getD s i 0) (drop (i + 1) s)
   unknown-digit h e = sym (unknown-next h ∙ ap (λ b. b && leb q (digitOf (signOf (getD s (i + 1) 0)))) (eq-eqb _ _ e))
 
-  pub unknown-turn : i < length s → unknownAt q i (drop i s) ≡ choose (unknown q (getD s i 0) (drop (i + 1) s)) (At i) (unknownAt q (i + 1) (drop (i + 1) s))
+  pub unknown-turn : i < length s → unknownAt q i (drop i s) ≡ cond (unknown q (getD s i 0) (drop (i + 1) s)) (At i) (unknownAt q (i + 1) (drop (i + 1) s))
   unfolding unknownAt
   unknown-turn h = ap (unknownAt q i) (byte s i h)
 
@@ -67,10 +67,10 @@ module _ (s : List ℕ) (q : ℕ) where
   read-long h = simp (lt-ltb 512 (length s) h)
 
   pub read-bad : (k : ℕ) → length s ≤ 512 → scan s ≡ Bad k → textRead s q ≡ refusedAs RuleText k
-  read-bad k h e = ap (λ b. choose b (refusedAs RuleLength 512) (ofScan (named s q) (scan s))) (le-ltb 512 (length s) h) ∙ ap (ofScan (named s q)) e
+  read-bad k h e = ap (λ b. cond b (refusedAs RuleLength 512) (ofScan (named s q) (scan s))) (le-ltb 512 (length s) h) ∙ ap (ofScan (named s q)) e
 
   pub read-good : length s ≤ 512 → scan s ≡ Good → textRead s q ≡ named s q
-  read-good h e = ap (λ b. choose b (refusedAs RuleLength 512) (ofScan (named s q) (scan s))) (le-ltb 512 (length s) h) ∙ ap (ofScan (named s q)) e
+  read-good h e = ap (λ b. cond b (refusedAs RuleLength 512) (ofScan (named s q) (scan s))) (le-ltb 512 (length s) h) ∙ ap (ofScan (named s q)) e
 
 -- what the table's check answered decides
 pub by-table : (p : Plant) (fair label next s : List ℕ) {t x : Outcome} → t ≡ tableOutcome p fair label next → t ≡ x → ofTable (textRead s (p .props)) x ≡ ruleRead p fair label next s

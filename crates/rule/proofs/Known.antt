@@ -4,7 +4,7 @@ use Prim.Native.Nat.{ℕ, zero, suc, _+_, _≤_, _<_}
 use mathlib.Core.Path.{_≡_, refl, sym, ap, subst, _∙_}
 use mathlib.Core.Logic.{_↔_}
 use mathlib.Core.List.{List, [], _∷_, _++_}
-use mathlib.Core.Bool.{Bool, true, false, _&&_}
+use mathlib.Core.Bool.{Bool, true, false, _&&_, cond}
 use native.Mathlib.Omega.{arith}
 use borrow.Author.Tests.{ne-eqb, eq-eqb, eqb-true, lt-leb, leb-true, leb-false}
 use lib.Dec.{T, eqb, leb}
@@ -18,7 +18,6 @@ use Rattle.syntax.specs.declared.Sign.the-variants.{Blank, Digit, Letter, Befor
 use Rattle.syntax.specs.Grammar.{names, sp-false, sp-true, sp-prop, sp-not, sp-next, sp-finally, sp-globally, sp-until, sp-release, sp-and, sp-or, sp-arrow, sp-open, sp-close, Spells, end, space, token, Level, Side, Atom, is-false, is-true, is-prop, Unary, is-not, is-next, is-finally, is-globally, Binary, is-implies, is-or, is-and, is-until, is-release, Text, atom, group, unary, lefts, rights, tight, Says, Names, Unknown}
 use Rattle.syntax.specs.Bytes.{signOf, digitOf}
 use Rattle.syntax.specs.Print.{Below}
-use Rattle.syntax.specs.Value.{choose}
 use Rattle.syntax.proofs.Lexing.{sign-digit, Byte, byte-of, both-true}
 use Rattle.rule.specs.declared.Found.{Found}
 use Rattle.rule.specs.declared.Found.the-variants.{At, Nowhere}
@@ -115,23 +114,23 @@ module _ (q : ℕ) where
 
   over-byte : (i b : ℕ) → (b ≡ 112 → ⊥) → (s : List ℕ) → unknownAt q i (b ∷ s) ≡ unknownAt q (i + 1) s
   unfolding unknownAt
-  over-byte i b h s = ap (λ x. choose x (At i) (unknownAt q (i + 1) s)) (small b h s)
+  over-byte i b h s = ap (λ x. cond x (At i) (unknownAt q (i + 1) s)) (small b h s)
 
   -- a proposition is the answer, or is passed
-  at-prop : (i k : ℕ) → k < names → (s : List ℕ) → unknownAt q i (112 ∷ (48 + k) ∷ s) ≡ choose (leb q k) (At i) (unknownAt q (i + 1 + 1) s)
+  at-prop : (i k : ℕ) → k < names → (s : List ℕ) → unknownAt q i (112 ∷ (48 + k) ∷ s) ≡ cond (leb q k) (At i) (unknownAt q (i + 1 + 1) s)
   unfolding unknownAt unknown
   at-prop i k h s =
-      ap (λ d. choose (leb q (digitOf d)) (At i) (unknownAt q (i + 1) ((48 + k) ∷ s))) (sign-digit k h)
-      ∙ ap (choose (leb q k) (At i)) (over-byte (i + 1) (48 + k) (λ e. omega arith) s)
+      ap (λ d. cond (leb q (digitOf d)) (At i) (unknownAt q (i + 1) ((48 + k) ∷ s))) (sign-digit k h)
+      ∙ ap (cond (leb q k) (At i)) (over-byte (i + 1) (48 + k) (λ e. omega arith) s)
 
   -- the same answer, with a token before
   passed : {x y : Found} {A : Type 0} → x ≡ y → (y ≡ Nowhere) ↔ A → (x ≡ Nowhere) ↔ (Unit {0} × A)
   passed e a = (λ h. (tt, a .0 (sym e ∙ h)), λ h. e ∙ a .1 (h .1))
 
-  met : (i k : ℕ) {x y : Found} {A : Type 0} → x ≡ choose (leb q k) (At i) y → (y ≡ Nowhere) ↔ A → (x ≡ Nowhere) ↔ ((k < q) × A)
-  met i k {x} {y} {A} e a = (λ h. go (leb q k) refl (sym e ∙ h), λ h. e ∙ ap (λ b. choose b (At i) y) (lt-leb q k (h .0)) ∙ a .1 (h .1))
+  met : (i k : ℕ) {x y : Found} {A : Type 0} → x ≡ cond (leb q k) (At i) y → (y ≡ Nowhere) ↔ A → (x ≡ Nowhere) ↔ ((k < q) × A)
+  met i k {x} {y} {A} e a = (λ h. go (leb q k) refl (sym e ∙ h), λ h. e ∙ ap (λ b. cond b (At i) y) (lt-leb q k (h .0)) ∙ a .1 (h .1))
     where
-      go : (b : Bool) → leb q k ≡ b → choose b (At i) y ≡ Nowhere → (k < q) × A
+      go : (b : Bool) → leb q k ≡ b → cond b (At i) y ≡ Nowhere → (k < q) × A
       go true t h = let z : _≡_ {A = ℕ} 0 1 = cc in absurd (omega arith)
       go false t h = (leb-false q k t, a .0 h)
 
@@ -204,7 +203,7 @@ module _ (q : ℕ) where
   none-unknown [] i h k j n = let w = n .within in absurd (omega arith)
   none-unknown (b ∷ s) i h k j n = go (unknown q b s) refl h k n (λ g m x. none-unknown s (i + 1) g m j x)
     where
-      go : (t : Bool) → unknown q b s ≡ t → choose t (At i) (unknownAt q (i + 1) s) ≡ Nowhere → (m : ℕ) → Names (b ∷ s) m j
+      go : (t : Bool) → unknown q b s ≡ t → cond t (At i) (unknownAt q (i + 1) s) ≡ Nowhere → (m : ℕ) → Names (b ∷ s) m j
           → (unknownAt q (i + 1) s ≡ Nowhere → (l : ℕ) → Names s l j → j < q) → j < q
       go true e g m x r = let z : _≡_ {A = ℕ} 0 1 = cc in absurd (omega arith)
       go false e g zero x r = not-here b s e j x
@@ -216,7 +215,7 @@ module _ (q : ℕ) where
   found-first some [] i k h = let z : _≡_ {A = ℕ} 0 1 = cc in absurd (omega arith)
   found-first some (b ∷ s) i k h = go (unknown q b s) refl h (λ g. found-first some s (i + 1) k g)
     where
-      go : (t : Bool) → unknown q b s ≡ t → choose t (At i) (unknownAt q (i + 1) s) ≡ At k
+      go : (t : Bool) → unknown q b s ≡ t → cond t (At i) (unknownAt q (i + 1) s) ≡ At k
           → (unknownAt q (i + 1) s ≡ At k → (m : ℕ) × (k ≡ i + 1 + m) × Unknown q s m) → (m : ℕ) × (k ≡ i + m) × Unknown q (b ∷ s) m
       go true e g r =
           let x = met-here some b s e in

@@ -1,5 +1,6 @@
 -- What printing a rule value answers, and what it leaves in the buffer.
 use Prim.Native.Nat.{ℕ}
+use mathlib.Core.Bool.{cond}
 use mathlib.Core.List.{List, [], _∷_, _++_}
 use lib.Dec.{ltb}
 use lib.ListN.{length, drop}
@@ -11,7 +12,7 @@ use Rattle.syntax.specs.declared.Rule.{Rule}
 use Rattle.syntax.specs.Grammar.{names}
 use Rattle.syntax.specs.Postfix.{decode}
 use Rattle.syntax.specs.Print.{print}
-use Rattle.syntax.specs.Value.{choose, held}
+use Rattle.syntax.specs.Value.{held}
 use Rattle.rule.specs.declared.Printed.{Printed}
 use Rattle.rule.specs.declared.Printed.the-variants.{Text, Refused}
 use Rattle.rule.specs.Valid.{validOf}
@@ -34,7 +35,7 @@ noPrint k = Refused (refusedAt k 0)
 
 -- 9 for a value of no rule over the propositions that have a name, 11 for a buffer shorter than the text, and else the text's length
 abbrev pub printAnswer : Rule → List ℕ → Printed
-printAnswer r old = choose (validOf r names) (choose (ltb (length old) (length (textOf r))) (noPrint Room) (Text (record { bytes = length (textOf r) }))) (noPrint Value)
+printAnswer r old = cond (validOf r names) (cond (ltb (length old) (length (textOf r))) (noPrint Room) (Text (record { bytes = length (textOf r) }))) (noPrint Value)
 
 abbrev pub printBuffer : Rule → List ℕ → List ℕ
-printBuffer r old = choose (validOf r names) (choose (ltb (length old) (length (textOf r))) old (over (textOf r) old)) old
+printBuffer r old = cond (validOf r names) (cond (ltb (length old) (length (textOf r))) old (over (textOf r) old)) old

@@ -1,7 +1,7 @@
 -- What reading a rule's text answers: each check of 01, in its order.
 use Prim.Native.Nat.{ℕ, _+_}
 use mathlib.Core.List.{List, [], _∷_}
-use mathlib.Core.Bool.{Bool, false, _&&_}
+use mathlib.Core.Bool.{Bool, false, _&&_, cond}
 use lib.Dec.{eqb, leb, ltb}
 use lib.ListN.{length}
 use Rattle.answers.specs.declared.Kind.{Kind}
@@ -17,7 +17,7 @@ use Rattle.syntax.specs.declared.Scan.the-variants.{Good, Bad}
 use Rattle.syntax.specs.Bytes.{signOf, digitOf}
 use Rattle.syntax.specs.Reader.{parse}
 use Rattle.syntax.specs.Scan.{scan}
-use Rattle.syntax.specs.Value.{emptyRule, choose, held, count}
+use Rattle.syntax.specs.Value.{emptyRule, held, count}
 use Rattle.reader.specs.Draft.{written}
 use Rattle.rule.specs.declared.RuleRead.{RuleRead}
 use Rattle.rule.specs.declared.Found.{Found}
@@ -37,11 +37,11 @@ unknown q b (d ∷ s) = eqb b 112 && leb q (digitOf (signOf d))
 -- the first such `p` of a text that stands from place i on
 unfoldable pub unknownAt : ℕ → ℕ → List ℕ → Found
 unknownAt q i [] = Nowhere
-unknownAt q i (b ∷ s) = choose (unknown q b s) (At i) (unknownAt q (i + 1) s)
+unknownAt q i (b ∷ s) = cond (unknown q b s) (At i) (unknownAt q (i + 1) s)
 
 -- 7 and 8
 abbrev pub limited : Rule → RuleRead
-limited r = choose (ltb 32 (r .len)) (refusedAs Nodes 0) (choose (ltb 6 (count (held r))) (refusedAs Parts 0) (accepted r))
+limited r = cond (ltb 32 (r .len)) (refusedAs Nodes 0) (cond (ltb 6 (count (held r))) (refusedAs Parts 0) (accepted r))
 
 -- 6
 abbrev pub ofFound : RuleRead → Found → RuleRead
@@ -58,7 +58,7 @@ ofScan r Good = r
 
 -- 4, and with it what a text alone is answered, for q propositions
 abbrev pub textRead : List ℕ → ℕ → RuleRead
-textRead s q = choose (ltb 512 (length s)) (refusedAs RuleLength 512) (ofScan (named s q) (scan s))
+textRead s q = cond (ltb 512 (length s)) (refusedAs RuleLength 512) (ofScan (named s q) (scan s))
 
 -- 1 and 2
 abbrev pub ofTable : RuleRead → Outcome → RuleRead

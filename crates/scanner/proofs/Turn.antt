@@ -1,5 +1,6 @@
 -- One byte of the scanner, and what its code's tests say.
 use Prim.Native.Nat.{ℕ, zero, suc, _+_, _-_, _≤_, _<_}
+use mathlib.Core.Bool.{cond}
 use mathlib.Core.Path.{_≡_, refl, sym, ap, _∙_}
 use mathlib.Core.List.{List}
 use native.Mathlib.Omega.{arith}
@@ -12,7 +13,7 @@ use Rattle.syntax.specs.declared.Move.the-variants.{ToOperand, ToNumber, ToOper
 use Rattle.syntax.specs.declared.State.{State}
 use Rattle.syntax.specs.declared.Scan.the-variants.{Bad}
 use Rattle.syntax.specs.Bytes.{signOf}
-use Rattle.syntax.specs.Scan.{at, lone, closes, moved, step, ends, dead, pickScan, scanFrom}
+use Rattle.syntax.specs.Scan.{at, lone, closes, moved, step, ends, dead, scanFrom}
 use Rattle.syntax.proofs.Places.{byte}
 
 pub lone-small : (k : ℕ) → k < 2 → ToOperator ≡ lone k
@@ -51,6 +52,6 @@ shallow d Stops = omega arith
 
 -- the scanner at a byte: stuck, or one place further
 pub turn : (st st′ : State) (i : ℕ) (s : List ℕ) → i < length s → st′ ≡ step (st .mode) (st .depth) (signOf (getD s i 0))
-    → scanFrom st i (drop i s) ≡ pickScan (dead (st′ .mode)) (Bad i) (scanFrom st′ (i + 1) (drop (i + 1) s))
+    → scanFrom st i (drop i s) ≡ cond (dead (st′ .mode)) (Bad i) (scanFrom st′ (i + 1) (drop (i + 1) s))
 unfolding scanFrom
-turn st st′ i s h e = ap (scanFrom st i) (byte s i h) ∙ ap (λ x. pickScan (dead (x .mode)) (Bad i) (scanFrom x (i + 1) (drop (i + 1) s))) (sym e)
+turn st st′ i s h e = ap (scanFrom st i) (byte s i h) ∙ ap (λ x. cond (dead (x .mode)) (Bad i) (scanFrom x (i + 1) (drop (i + 1) s))) (sym e)

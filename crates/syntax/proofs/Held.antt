@@ -2,7 +2,7 @@
 use Prim.Native.Nat.{ℕ, _+_, _≤_, _<_}
 use mathlib.Core.Path.{_≡_, refl, sym, ap, _∙_}
 use mathlib.Core.List.{List, [], _∷_, map}
-use mathlib.Core.Bool.{Bool, true, false}
+use mathlib.Core.Bool.{Bool, true, false, cond}
 use native.Mathlib.Omega.{arith}
 use native.Mathlib.Numerals.{add-one}
 use borrow.Author.Tests.{ltb-true, ltb-false}
@@ -15,7 +15,7 @@ use denote.Struct.Field.{array-field}
 use Rattle.syntax.specs.declared.Op.{Op}
 use Rattle.syntax.specs.declared.Node.{Node}
 use Rattle.syntax.specs.declared.Rule.{Rule}
-use Rattle.syntax.specs.Value.{blank, opsOf, choose, stored, held}
+use Rattle.syntax.specs.Value.{blank, opsOf, stored, held}
 use Rattle.syntax.proofs.Node.{the-field}
 
 -- a rule's array has 32 nodes: a parameter that is a rule tells it by `c .good`
@@ -42,7 +42,7 @@ heldFrom r i = opsOf (drop i (take (stored r) (r .nodes)))
 pub stored-few : (r : Rule) → stored r ≤ 32
 stored-few r = go (ltb 32 (r .len)) refl
   where
-    go : (b : Bool) → ltb 32 (r .len) ≡ b → choose b 32 (r .len) ≤ 32
+    go : (b : Bool) → ltb 32 (r .len) ≡ b → cond b 32 (r .len) ≤ 32
     go true e = omega arith
     go false e = ltb-false 32 (r .len) e
 
@@ -51,7 +51,7 @@ module _ (r : Rule) (is : length (r .nodes) ≡ 32) where
   pub held-start : heldFrom r 0 ≡ held r
   held-start = go (ltb 32 (r .len)) refl
     where
-      go : (b : Bool) → ltb 32 (r .len) ≡ b → opsOf (take (choose b 32 (r .len)) (r .nodes)) ≡ held r
+      go : (b : Bool) → ltb 32 (r .len) ≡ b → opsOf (take (cond b 32 (r .len)) (r .nodes)) ≡ held r
       go true e = let h = ltb-true 32 (r .len) e in ap opsOf (take-all 32 (r .nodes) (omega arith) ∙ sym (take-all (r .len) (r .nodes) (omega arith)))
       go false e = refl
 

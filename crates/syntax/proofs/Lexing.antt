@@ -3,7 +3,7 @@ use Prim.{Unit}
 use Prim.Native.Nat.{ℕ, _+_, _-_, _<_}
 use mathlib.Core.Path.{_≡_, refl, ap, _∙_}
 use mathlib.Core.List.{List, [], _∷_}
-use mathlib.Core.Bool.{Bool, true, false, _&&_}
+use mathlib.Core.Bool.{Bool, true, false, _&&_, cond}
 use native.Mathlib.Omega.{arith}
 use borrow.Author.Tests.{le-leb, eqb-true, leb-true}
 use Rattle.syntax.specs.declared.Op.the-variants.{False, True, Prop, Not, Next, Finally, Globally, Until, Release, And, Or, Implies}
@@ -12,7 +12,7 @@ use Rattle.syntax.specs.declared.Token.the-variants.{Leaf, Prefix, Infix
 use Rattle.syntax.specs.declared.Sign.{Sign}
 use Rattle.syntax.specs.declared.Sign.the-variants.{Blank, Digit, Letter, Before, Between, Dash, Angle, Left, Right, Other}
 use Rattle.syntax.specs.Grammar.{names, Spelt, sp-false, sp-true, sp-prop, sp-not, sp-next, sp-finally, sp-globally, sp-until, sp-release, sp-and, sp-or, sp-arrow, sp-open, sp-close, Spells, end, space, token}
-use Rattle.syntax.specs.Bytes.{if, signOf, digitOf, leafOf, lexSign, lex}
+use Rattle.syntax.specs.Bytes.{signOf, digitOf, leafOf, lexSign, lex}
 
 pub sign-digit : (k : ℕ) → k < names → signOf (48 + k) ≡ Digit k
 unfolding signOf
@@ -53,7 +53,7 @@ Byte Left b = b ≡ 40
 Byte Right b = b ≡ 41
 Byte Other b = Unit {0}
 
-either : (b : ℕ) (t : Bool) (x y : Sign) → (t ≡ true → Byte x b) → Byte y b → Byte (if t x y) b
+either : (b : ℕ) (t : Bool) (x y : Sign) → (t ≡ true → Byte x b) → Byte y b → Byte (cond t x y) b
 either b true x y f g = f refl
 either b false x y f g = g
 

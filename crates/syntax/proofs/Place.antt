@@ -3,7 +3,7 @@ use Prim.Native.Nat.{ℕ, zero, suc, _+_}
 use mathlib.Core.Path.{_≡_, refl, sym, ap, subst, _∙_}
 use mathlib.Core.Logic.{inl, inr}
 use mathlib.Core.List.{List, [], _∷_, _++_, append-assoc, append-nil}
-use mathlib.Core.Bool.{Bool, true, false}
+use mathlib.Core.Bool.{Bool, true, false, cond}
 use native.Mathlib.Omega.{arith}
 use native.Mathlib.Numerals.{add-one}
 use lib.ListN.{length, take, replicate, length-append}
@@ -20,7 +20,7 @@ use Rattle.syntax.specs.declared.Scan.{Scan}
 use Rattle.syntax.specs.declared.Scan.the-variants.{Good, Bad}
 use Rattle.syntax.specs.Grammar.{Spelt, sp-false, sp-true, sp-prop, sp-not, sp-next, sp-finally, sp-globally, sp-until, sp-release, sp-and, sp-or, sp-arrow, sp-open, sp-close, Spells, end, space, token, Level, Text, atom, group, unary, lefts, rights, tight, Says, Viable, Refused}
 use Rattle.syntax.specs.Bytes.{signOf}
-use Rattle.syntax.specs.Scan.{at, stuck, closes, digit, moved, step, run, start, ends, dead, pickScan, scanFrom, scan}
+use Rattle.syntax.specs.Scan.{at, stuck, closes, digit, moved, step, run, start, ends, dead, scanFrom, scan}
 use Rattle.syntax.proofs.Lexing.{sign-digit}
 use Rattle.syntax.proofs.Scanned.{built}
 
@@ -174,7 +174,7 @@ abbrev pub Judged : List ℕ → Scan → Type 0
 Judged s Good = (f : Formula) × Says f s
 Judged s (Bad k) = Refused s k
 
-choose : (s : List ℕ) (t : Bool) (x y : Scan) → (t ≡ true → Judged s x) → (t ≡ false → Judged s y) → Judged s (pickScan t x y)
+choose : (s : List ℕ) (t : Bool) (x y : Scan) → (t ≡ true → Judged s x) → (t ≡ false → Judged s y) → Judged s (cond t x y)
 choose s true x y f g = f refl
 choose s false x y f g = g refl
 

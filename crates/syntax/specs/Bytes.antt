@@ -1,7 +1,7 @@
 -- What each byte may be, and the tokens of a text. `lex` is lenient: what stands in no text it skips.
 use Prim.Native.Nat.{ℕ, zero, suc, _-_}
 use mathlib.Core.List.{List, [], _∷_}
-use mathlib.Core.Bool.{Bool, true, false, _&&_}
+use mathlib.Core.Bool.{Bool, true, false, _&&_, cond}
 use lib.Dec.{eqb, leb}
 use lib.ListN.{drop}
 use Rattle.syntax.specs.declared.Op.{Op}
@@ -11,27 +11,23 @@ use Rattle.syntax.specs.declared.Token.the-variants.{Leaf, Prefix, Infix
 use Rattle.syntax.specs.declared.Sign.{Sign}
 use Rattle.syntax.specs.declared.Sign.the-variants.{Blank, Digit, Letter, Before, Between, Dash, Angle, Left, Right, Other}
 
-abbrev pub if : Bool → Sign → Sign → Sign
-if true a b = a
-if false a b = b
-
 unfoldable pub signOf : ℕ → Sign
 signOf b =
-    if (leb 48 b && leb b 55) (Digit (b - 48))
-    (if (eqb b 32) Blank
-    (if (eqb b 33) (Before Not)
-    (if (eqb b 38) (Between And)
-    (if (eqb b 40) Left
-    (if (eqb b 41) Right
-    (if (eqb b 45) Dash
-    (if (eqb b 62) Angle
-    (if (eqb b 70) (Before Finally)
-    (if (eqb b 71) (Before Globally)
-    (if (eqb b 82) (Between Release)
-    (if (eqb b 85) (Between Until)
-    (if (eqb b 88) (Before Next)
-    (if (eqb b 112) Letter
-    (if (eqb b 124) (Between Or) Other))))))))))))))
+    cond (leb 48 b && leb b 55) (Digit (b - 48))
+    (cond (eqb b 32) Blank
+    (cond (eqb b 33) (Before Not)
+    (cond (eqb b 38) (Between And)
+    (cond (eqb b 40) Left
+    (cond (eqb b 41) Right
+    (cond (eqb b 45) Dash
+    (cond (eqb b 62) Angle
+    (cond (eqb b 70) (Before Finally)
+    (cond (eqb b 71) (Before Globally)
+    (cond (eqb b 82) (Between Release)
+    (cond (eqb b 85) (Between Until)
+    (cond (eqb b 88) (Before Next)
+    (cond (eqb b 112) Letter
+    (cond (eqb b 124) (Between Or) Other))))))))))))))
 
 -- the leaf of a digit that stands alone
 unfoldable pub leafOf : ℕ → Op

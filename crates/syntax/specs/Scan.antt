@@ -1,7 +1,7 @@
 -- The scanner: two modes and a depth of open parentheses, with a mode inside `p3` and one inside `->`.
 use Prim.Native.Nat.{ℕ, zero, suc, _+_}
 use mathlib.Core.List.{List, [], _∷_}
-use mathlib.Core.Bool.{Bool, true, false}
+use mathlib.Core.Bool.{Bool, true, false, cond}
 use Rattle.syntax.specs.declared.Sign.{Sign}
 use Rattle.syntax.specs.declared.Sign.the-variants.{Blank, Digit, Letter, Before, Between, Dash, Angle, Left, Right, Other}
 use Rattle.syntax.specs.declared.Mode.{Mode}
@@ -125,15 +125,11 @@ dead Number = false
 dead Operator = false
 dead Arrow = false
 
-abbrev pub pickScan : Bool → Scan → Scan → Scan
-pickScan true a b = a
-pickScan false a b = b
-
 -- the text s stands from place i on, and the scanner is in the state st
 unfoldable pub scanFrom : State → ℕ → List ℕ → Scan
-scanFrom st i [] = pickScan (ends (st .mode) (st .depth)) Good (Bad i)
+scanFrom st i [] = cond (ends (st .mode) (st .depth)) Good (Bad i)
 scanFrom st i (b ∷ s) =
-    pickScan (dead (step (st .mode) (st .depth) (signOf b) .mode)) (Bad i) (scanFrom (step (st .mode) (st .depth) (signOf b)) (i + 1) s)
+    cond (dead (step (st .mode) (st .depth) (signOf b) .mode)) (Bad i) (scanFrom (step (st .mode) (st .depth) (signOf b)) (i + 1) s)
 
 unfoldable pub scan : List ℕ → Scan
 scan s = scanFrom start 0 s

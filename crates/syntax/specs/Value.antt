@@ -1,7 +1,7 @@
 -- Rules as values: the nodes in postfix order, and then False.
 use Prim.Native.Nat.{ℕ, _+_, _-_}
 use mathlib.Core.List.{List, [], _∷_, _++_}
-use mathlib.Core.Bool.{Bool, true, false}
+use mathlib.Core.Bool.{cond}
 use lib.Dec.{ltb}
 use lib.ListN.{take, drop, replicate}
 use Rattle.meaning.specs.Formula.{Formula, size}
@@ -30,13 +30,9 @@ opsOf (n ∷ ns) = n .op ∷ opsOf ns
 abbrev pub ruleOf : Formula → Rule
 ruleOf f = record { len = size f; nodes = nodesOf (postfix f) ++ replicate (32 - size f) blank }
 
-abbrev pub choose : {A : Type 0} → Bool → A → A → A
-choose true a b = a
-choose false a b = b
-
 -- how many nodes of a value stand in its array
 abbrev pub stored : Rule → ℕ
-stored r = choose (ltb 32 (r .len)) 32 (r .len)
+stored r = cond (ltb 32 (r .len)) 32 (r .len)
 
 -- the nodes of a value, and those beyond its length
 abbrev pub held : Rule → List Op

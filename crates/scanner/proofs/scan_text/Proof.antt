@@ -1,12 +1,13 @@
 -- `scanner::scan_text` meets its contract. The loop's invariant: from here on, in the state reached, the scanner answers what it answers from the start;
 -- and no more parentheses are open than bytes are read. The measure is what is left of the text. Assumes nothing.
 use Prim.Native.Nat.{_≤_, _+_, _-_}
+use mathlib.Core.Bool.{cond}
 use mathlib.Core.Path.{_≡_, refl, sym, ap, _∙_}
 use native.Mathlib.Omega.{arith}
 use borrow.Author.Needs.{needs}
 use lib.ListN.{length, drop}
 use Rattle.syntax.specs.declared.Scan.the-variants.{Good, Bad}
-use Rattle.syntax.specs.Scan.{move, moved, pickScan, scanFrom, scan}
+use Rattle.syntax.specs.Scan.{move, moved, scanFrom, scan}
 use Rattle.syntax.proofs.Places.{at-end}
 use Rattle.scanner.proofs.Turn.{shallow, turn}
 use Rattle.scanner.proofs.scan_text.Statement.{statement}
@@ -22,43 +23,22 @@ loop-holds : tie.Need-loop-holds Inv-loop μ-loop
 unfolding scan
 loop-holds c = (omega arith, omega arith, refl)
 
-shared-slice-read-sign-of : tie.Need-shared-slice-read-sign-of Inv-loop μ-loop
-shared-slice-read-sign-of c = omega arith
-
-sign-of-requires : tie.Need-sign-of-requires Inv-loop μ-loop
-sign-of-requires c κs = search needs
-
-move-of-requires : tie.Need-move-of-requires Inv-loop μ-loop
-move-of-requires c κs = search needs
-
-state-after-requires : tie.Need-state-after-requires Inv-loop μ-loop
-state-after-requires c κs = omega arith
-
-is-dead-requires : tie.Need-is-dead-requires Inv-loop μ-loop
-is-dead-requires c κs = search needs
-
 -- after a turn's step, the scanner answers by whether it is stuck
 stepped : (c : tie.After-is-dead Inv-loop μ-loop) →
     let k = c .before .before .before in
     let l = k .before .before .before .loop in
     let s = k .before .before .before .before .before .args .text .now in
-    pickScan (c .is-dead .result) (Bad (l .at)) (scanFrom (c .before .state-after .result) (l .at + 1) (drop (l .at + 1) s)) ≡ scan s
+    cond (c .is-dead .result) (Bad (l .at)) (scanFrom (c .before .state-after .result) (l .at + 1) (drop (l .at + 1) s)) ≡ scan s
 stepped c =
     let k = c .before .before .before in
     let l = k .before .before .before .loop in
     let s = k .before .before .before .before .before .args .text .now in
     let e = c .before .state-after .ensures ∙ ap (moved (l .state .depth)) (c .before .before .move-of .ensures ∙ ap (move (l .state .mode)) (k .sign-of .ensures)) in
-    ap (λ b. pickScan b (Bad (l .at)) (scanFrom (c .before .state-after .result) (l .at + 1) (drop (l .at + 1) s))) (c .is-dead .ensures)
+    ap (λ b. cond b (Bad (l .at)) (scanFrom (c .before .state-after .result) (l .at + 1) (drop (l .at + 1) s))) (c .is-dead .ensures)
     ∙ sym (turn (l .state) (c .before .state-after .result) (l .at) s (k .before .before .loop-test .taken) e) ∙ l .inv .2
 
 returns : tie.Need-returns Inv-loop μ-loop
 returns c = rw (c .if1 .taken) at (stepped (c .before))
-
-add-at : tie.Need-add-at Inv-loop μ-loop
-add-at c = omega arith
-
-loop-less : tie.Need-loop-less Inv-loop μ-loop
-loop-less c = omega arith
 
 loop-again : tie.Need-loop-again Inv-loop μ-loop
 loop-again c =
@@ -66,15 +46,12 @@ loop-again c =
     let d = rw (sym (c .before .before .state-after .ensures)) at (shallow (l .state .depth) (c .before .before .before .move-of .result)) in
     (omega arith, omega (arith, l .inv .1), rw (c .if1 .left) at (stepped (c .before)))
 
-may-end-requires : tie.Need-may-end-requires Inv-loop μ-loop
-may-end-requires c κs = search needs
-
 -- after the loop, it answers by whether the text may end
-ended : (c : tie.After-may-end Inv-loop μ-loop) → pickScan (c .may-end .result) Good (Bad (c .before .before .loop .at)) ≡ scan (c .before .before .before .before .args .text .now)
+ended : (c : tie.After-may-end Inv-loop μ-loop) → cond (c .may-end .result) Good (Bad (c .before .before .loop .at)) ≡ scan (c .before .before .before .before .args .text .now)
 unfolding scanFrom
 ended c =
     let l = c .before .before .loop in
-    ap (λ b. pickScan b Good (Bad (l .at))) (c .may-end .ensures) ∙ sym (ap (scanFrom (l .state) (l .at)) (at-end _ (l .at) (l .inv .0) (c .before .loop-test .left))) ∙ l .inv .2
+    ap (λ b. cond b Good (Bad (l .at))) (c .may-end .ensures) ∙ sym (ap (scanFrom (l .state) (l .at)) (at-end _ (l .at) (l .inv .0) (c .before .loop-test .left))) ∙ l .inv .2
 
 returns-2 : tie.Need-returns-2 Inv-loop μ-loop
 returns-2 c = rw (c .if2 .taken) at (ended (c .before))
@@ -84,6 +61,7 @@ returns-3 c = rw (c .if2 .left) at (ended (c .before))
 
 pub scan-text-spec : {M : Type 1} → statement M
 scan-text-spec =
-    tie.close
-    (tie.spec Inv-loop μ-loop loop-holds shared-slice-read-sign-of sign-of-requires move-of-requires state-after-requires is-dead-requires returns add-at loop-less loop-again
-    may-end-requires returns-2 returns-3)
+    tie.close (tie.spec
+    Inv-loop μ-loop loop-holds (λ c. omega arith) (λ c κs. search needs) (λ c κs. search needs) (λ c κs. omega arith)
+    (λ c κs. search needs) returns (λ c. omega arith) (λ c. omega arith) loop-again (λ c κs. search needs) returns-2
+    returns-3)

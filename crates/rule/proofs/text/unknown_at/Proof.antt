@@ -1,9 +1,9 @@
 -- `rule::text::unknown_at` meets its contract. The loop's invariant: the answer from here on is the answer. Assumes nothing.
 use Prim.Native.Nat.{_+_, _-_, _≤_}
+use mathlib.Core.Bool.{cond}
 use mathlib.Core.Path.{_≡_, refl, sym, ap, _∙_}
 use native.Mathlib.Omega.{arith}
 use lib.ListN.{length, drop}
-use Rattle.syntax.specs.Value.{choose}
 use Rattle.rule.specs.declared.Found.the-variants.{At}
 use Rattle.rule.specs.Reading.{unknownAt}
 use Rattle.rule.proofs.Checks.{unknown-turn, unknown-none}
@@ -21,12 +21,12 @@ turned : (c : tie.After-is-unknown Inv-loop μ-loop) →
     let l = c .before .before .loop in
     let q = c .before .before .before .before .args .props in
     let s = c .before .before .before .before .args .text .now in
-    choose (c .is-unknown .result) (At (l .at)) (unknownAt q (l .at + 1) (drop (l .at + 1) s)) ≡ unknownAt q 0 s
+    cond (c .is-unknown .result) (At (l .at)) (unknownAt q (l .at + 1) (drop (l .at + 1) s)) ≡ unknownAt q 0 s
 turned c =
     let l = c .before .before .loop in
     let q = c .before .before .before .before .args .props in
     let s = c .before .before .before .before .args .text .now in
-    ap (λ b. choose b (At (l .at)) (unknownAt q (l .at + 1) (drop (l .at + 1) s))) (c .is-unknown .ensures) ∙ sym (unknown-turn q s (l .at) (c .before .loop-test .taken)) ∙ l .inv .1
+    ap (λ b. cond b (At (l .at)) (unknownAt q (l .at + 1) (drop (l .at + 1) s))) (c .is-unknown .ensures) ∙ sym (unknown-turn q s (l .at) (c .before .loop-test .taken)) ∙ l .inv .1
 
 returns : tie.Need-returns Inv-loop μ-loop
 returns c = rw (c .if1 .taken) at (turned (c .before))
