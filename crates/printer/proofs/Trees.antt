@@ -19,7 +19,7 @@ use Rattle.printer.proofs.Writes.{wrote-none, wrote-to, wrote-before, w
 abbrev pub nodeAt : List Node → ℕ → Op
 nodeAt ns i = getD ns i blank .op
 
-pub back-one : (ns : List Node) (k : ℕ) → (k ≡ 0 → ⊥) → back ns k ≡ nodeAt ns (k - 1) ∷ back ns (k - 1)
+back-one : (ns : List Node) (k : ℕ) → (k ≡ 0 → ⊥) → back ns k ≡ nodeAt ns (k - 1) ∷ back ns (k - 1)
 unfolding back
 back-one ns zero h = absurd (h refl)
 back-one ns (suc k) h = rw (sub-one (suc k))
@@ -39,7 +39,7 @@ module _ (o : Op) (os : List Op) (n : ℕ) where
   tell-two e f = simp (ne-eqb (sides o) 0 e, ne-eqb (sides o) 1 f)
 
 -- the parentheses of each sign of node
-pub few : (k : ℕ) → k ≤ 1 → parens k ≡ 0
+few : (k : ℕ) → k ≤ 1 → parens k ≡ 0
 few zero h = refl
 few (suc zero) h = refl
 few (suc (suc k)) h = absurd (omega arith)
@@ -53,86 +53,98 @@ many (suc (suc k)) e f = refl
 abbrev Lined : List Node → ℕ → List ℕ → ℕ → ℕ → List ℕ → Line → Type 0
 Lined ns j a lo hi b l = (l .rest ≡ back ns j) × Wrote a lo hi (l .text) b
 
-module _ (ns : List Node) (k hi : ℕ) (a : List ℕ) where
-  pub told-none : k ≡ 0 → hi ≤ length a → Told ns k hi a (record { node = k; at = hi }) a
-  unfolding back tell
-  told-none e h = rw e (record { down = omega arith; paid = refl; told = go })
-    where
-      go : (n : ℕ) → 0 < n → Lined ns 0 a hi hi a (tell n [])
-      go zero lt = absurd (omega arith)
-      go (suc n) lt = (refl, wrote-none a hi h)
-
-  module _ (o : Op) (i : ℕ) (small : i < k) (is : back ns k ≡ o ∷ back ns i) where
-    shared : shares (back ns k) ≡ share o + shares (back ns i)
-    unfolding shares
-    shared = ap shares is
-
-    pub told-leaf : sides o ≡ 0 → {r : ℕ} {b : List ℕ} → Wording a hi o r b → Told ns k hi a (record { node = i; at = r }) b
-    told-leaf e {r} {b} w = record { down = omega arith; paid = omega (arith, shared, few (sides o) (omega arith), w .begins); told = go }
-      where
-        go : (n : ℕ) → k < n → Lined ns i a r hi b (tell n (back ns k))
-        go zero lt = absurd (omega arith)
-        go (suc n) lt = rw (is, tell-leaf o (back ns i) n e) (refl, w .wrote)
-
-    pub told-one : sides o ≡ 1 → {s : Spot} {r : ℕ} {b c : List ℕ} → Told ns i hi a s b → Wording b (s .at) o r c → Told ns k hi a (record { node = s .node; at = r }) c
-    told-one e {s} {r} {b} {c} x w =
-        record { down = omega (arith, x .down); paid = omega (arith, shared, few (sides o) (omega arith), x .paid, w .begins); told = go }
-      where
-        go : (n : ℕ) → k < n → Lined ns (s .node) a r hi c (tell n (back ns k))
-        go zero lt = absurd (omega arith)
-        go (suc n) lt = let y = x .told n (omega arith) in rw (is, tell-one o (back ns i) n e) (y .0, wrote-before (y .1) (w .wrote))
-
-    pub told-two : (sides o ≡ 0 → ⊥) → (sides o ≡ 1 → ⊥) → {close m lead : ℕ} {s q : Spot} {b c d e f : List ℕ} → Wrote a close (close + 1) (41 ∷ []) b → close + 1 ≡ hi
-        → Told ns i close b s c → Wording c (s .at) o m d → Told ns (s .node) m d q e → Wrote e lead (lead + 1) (40 ∷ []) f → lead + 1 ≡ q .at
-        → Told ns k hi a (record { node = q .node; at = lead }) f
-    told-two z u {close} {m} {lead} {s} {q} {b} {c} {d} {e} {f} wc ec x w y wo eo =
-        record { down = omega (arith, x .down, y .down); paid = omega (arith, shared, many (sides o) z u, x .paid, w .begins, y .paid); told = go }
-      where
-        go : (n : ℕ) → k < n → Lined ns (q .node) a lead hi f (tell n (back ns k))
-        go zero lt = absurd (omega arith)
-        go (suc n) lt =
-            let p = x .told n (omega arith) in
-            let r = y .told n (omega (arith, x .down)) in
-            rw (is, tell-two o (back ns i) n z u, p .0)
-            (r .0, wrote-before (wrote-before (wrote-before (wrote-before (wrote-to ec wc) (p .1)) (w .wrote)) (r .1)) (wrote-to eo wo))
+pub told-none : (ns : List Node) (k hi : ℕ) (a : List ℕ) → k ≡ 0 → hi ≤ length a → Told ns k hi a (record { node = k; at = hi }) a
+unfolding back tell
+told-none ns k hi a e h = rw e (record { down = omega arith; paid = refl; told = go })
+  where
+    go : (n : ℕ) → 0 < n → Lined ns 0 a hi hi a (tell n [])
+    go zero lt = absurd (omega arith)
+    go (suc n) lt = (refl, wrote-none a hi h)
 
 -- what is told fits
 pub told-fits : {ns : List Node} {k hi : ℕ} {a : List ℕ} {r : Spot} {b : List ℕ} → Told ns k hi a r b → (r .at ≤ hi) × (hi ≤ length a) × (length b ≡ length a)
 told-fits {k = k} x = let w = x .told (suc k) (omega arith) .1 in (omega (arith, w .span), w .fits, wrote-length w)
 
--- the room for each part of a rule, where the node before k is the last one
-module _ (ns : List Node) (k hi : ℕ) (a : List ℕ) (room : Room ns k hi (length a)) (some : k ≡ 0 → ⊥) where
-  budget : width (nodeAt ns (k - 1)) + parens (sides (nodeAt ns (k - 1))) + shares (back ns (k - 1)) ≤ hi
+-- there is a last node, and room for all
+pub record Last (ns : List Node) (k hi size : ℕ) : Type 0 where
+  pub some : k ≡ 0 → ⊥
+  pub room : Room ns k hi size
+
+module _ {ns : List Node} {k hi size : ℕ} (l : Last ns k hi size) where
+  abbrev o : Op
+  o = nodeAt ns (k - 1)
+
+  is : back ns k ≡ o ∷ back ns (k - 1)
+  is = back-one ns k (l .some)
+
+  shared : shares (back ns k) ≡ share o + shares (back ns (k - 1))
   unfolding shares
-  budget = omega (arith, room .room, ap shares (back-one ns k some))
+  shared = ap shares is
 
-  pub room-leaf : (width (nodeAt ns (k - 1)) ≤ hi) × (hi ≤ length a)
-  room-leaf = (omega (arith, budget), room .fits)
+  -- ---- what is told of it
 
-  pub room-inner : Room ns (k - 1) hi (length a)
-  room-inner = record { nodes = omega (arith, room .nodes); room = omega (arith, budget); fits = room .fits }
+  pub told-leaf : sides o ≡ 0 → {a b : List ℕ} {r : ℕ} → Wording a hi o r b → Told ns k hi a (record { node = k - 1; at = r }) b
+  told-leaf e {a} {b} {r} w = record { down = omega arith; paid = omega (arith, shared, few (sides o) (omega arith), w .begins); told = go }
+    where
+      go : (n : ℕ) → k < n → Lined ns (k - 1) a r hi b (tell n (back ns k))
+      go zero lt = absurd (omega arith)
+      go (suc n) lt = rw (is, tell-leaf o (back ns (k - 1)) n e) (refl, w .wrote)
 
-  pub room-word : {s : Spot} {b : List ℕ} → Told ns (k - 1) hi a s b → (width (nodeAt ns (k - 1)) ≤ s .at) × (s .at ≤ length b)
+  pub told-one : sides o ≡ 1 → {a b c : List ℕ} {s : Spot} {r : ℕ} → Told ns (k - 1) hi a s b → Wording b (s .at) o r c → Told ns k hi a (record { node = s .node; at = r }) c
+  told-one e {a} {b} {c} {s} {r} x w =
+      record { down = omega (arith, x .down); paid = omega (arith, shared, few (sides o) (omega arith), x .paid, w .begins); told = go }
+    where
+      go : (n : ℕ) → k < n → Lined ns (s .node) a r hi c (tell n (back ns k))
+      go zero lt = absurd (omega arith)
+      go (suc n) lt = let some = l .some in let y = x .told n (omega arith) in rw (is, tell-one o (back ns (k - 1)) n e) (y .0, wrote-before (y .1) (w .wrote))
+
+  pub told-two : (sides o ≡ 0 → ⊥) → (sides o ≡ 1 → ⊥) → {a b c d e f : List ℕ} {close m lead : ℕ} {s q : Spot} → Wrote a close (close + 1) (41 ∷ []) b → close + 1 ≡ hi
+      → Told ns (k - 1) close b s c → Wording c (s .at) o m d → Told ns (s .node) m d q e → Wrote e lead (lead + 1) (40 ∷ []) f → lead + 1 ≡ q .at
+      → Told ns k hi a (record { node = q .node; at = lead }) f
+  told-two z u {a} {b} {c} {d} {e} {f} {close} {m} {lead} {s} {q} wc ec x w y wo eo =
+      record { down = omega (arith, x .down, y .down); paid = omega (arith, shared, many (sides o) z u, x .paid, w .begins, y .paid); told = go }
+    where
+      go : (n : ℕ) → k < n → Lined ns (q .node) a lead hi f (tell n (back ns k))
+      go zero lt = absurd (omega arith)
+      go (suc n) lt =
+          let some = l .some in
+          let p = x .told n (omega arith) in
+          let r = y .told n (omega (arith, x .down)) in
+          rw (is, tell-two o (back ns (k - 1)) n z u, p .0)
+          (r .0, wrote-before (wrote-before (wrote-before (wrote-before (wrote-to ec wc) (p .1)) (w .wrote)) (r .1)) (wrote-to eo wo))
+
+  -- ---- the room for each part of its rule
+
+  budget : width o + parens (sides o) + shares (back ns (k - 1)) ≤ hi
+  budget = omega (arith, l .room .room, shared)
+
+  pub room-leaf : (width o ≤ hi) × (hi ≤ size)
+  room-leaf = (omega (arith, budget), l .room .fits)
+
+  pub room-inner : Room ns (k - 1) hi size
+  room-inner = record { nodes = omega (arith, l .room .nodes); room = omega (arith, budget); fits = l .room .fits }
+
+  pub room-word : {a b : List ℕ} {s : Spot} → Told ns (k - 1) hi a s b → (width o ≤ s .at) × (s .at ≤ length b)
   room-word x = let f = told-fits x in (omega (arith, budget, x .paid), omega arith)
 
-  module _ (two : parens (sides (nodeAt ns (k - 1))) ≡ 2) where
-    pub room-close : (1 ≤ hi) × (hi - 1 < length a)
-    room-close = (omega (arith, budget), omega (arith, budget, room .fits))
+  module _ (two : parens (sides o) ≡ 2) where
+    pub room-close : (1 ≤ hi) × (hi - 1 < size)
+    room-close = (omega (arith, budget), omega (arith, budget, l .room .fits))
 
-    module _ {b : List ℕ} (wb : Wrote a (hi - 1) (hi - 1 + 1) (41 ∷ []) b) where
+    module _ {a b : List ℕ} (wb : Wrote a (hi - 1) (hi - 1 + 1) (41 ∷ []) b) where
       pub room-right : Room ns (k - 1) (hi - 1) (length b)
-      room-right = record { nodes = omega (arith, room .nodes); room = omega (arith, budget); fits = omega (arith, room .fits, wrote-length wb) }
+      room-right = record { nodes = omega (arith, l .room .nodes); room = omega (arith, budget); fits = omega (arith, wb .fits, wrote-length wb) }
 
       module _ {s : Spot} {c : List ℕ} (x : Told ns (k - 1) (hi - 1) b s c) where
-        pub room-sign : (width (nodeAt ns (k - 1)) ≤ s .at) × (s .at ≤ length c)
+        pub room-sign : (width o ≤ s .at) × (s .at ≤ length c)
         room-sign = let f = told-fits x in (omega (arith, budget, x .paid), omega arith)
 
-        module _ {m : ℕ} {d : List ℕ} (w : Wording c (s .at) (nodeAt ns (k - 1)) m d) where
+        module _ {m : ℕ} {d : List ℕ} (w : Wording c (s .at) o m d) where
           pub room-left : Room ns (s .node) m (length d)
           room-left =
               let f = told-fits x in
               record {
-                nodes = omega (arith, room .nodes, x .down);
+                nodes = omega (arith, l .room .nodes, x .down);
                 room = omega (arith, budget, x .paid, w .begins);
                 fits = omega (arith, w .begins, wrote-length (w .wrote));
               }
