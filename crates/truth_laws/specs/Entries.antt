@@ -11,7 +11,7 @@ use Rattle.meaning.specs.Formula.{Formula, never, always, prop, neg, next, fina
 use Rattle.meaning.specs.Run.{Plant}
 use Rattle.meaning.specs.Limits.{AcceptedTable}
 use Rattle.syntax.specs.declared.Op.{Op}
-use Rattle.syntax.specs.declared.Op.the-variants.{Not, Next, Finally, Globally, Until, Release, And, Or, Implies}
+use Rattle.syntax.specs.declared.Op.the-variants.{Next, Finally, Globally, Until, Release, And, Or, Implies}
 use Rattle.syntax.specs.declared.Node.{Node}
 use Rattle.syntax.specs.declared.Rule.{Rule}
 use Rattle.syntax.specs.Print.{Below}
@@ -31,7 +31,7 @@ use Rattle.truth.specs.Tables.{wordsIn, rowsIn}
 use Rattle.truth_laws.specs.Words.{own-small}
 use Rattle.truth_laws.specs.Tree.{one, two, treeOf, nodesIn}
 use Rattle.truth_laws.specs.Numbers.{PartAt, kinds-at}
-use Rattle.truth_laws.specs.Occurs.{Occurs, one-op, one-plain, one-part, one-begins, two-op, two-left, two-plain, two-part, two-begins}
+use Rattle.truth_laws.specs.Occurs.{Occurs, above-plain, above-part, above-begins, one-above, two-left, two-above}
 use Rattle.truth_laws.specs.Shown.{own-wholly, small, shown}
 use Rattle.truth_laws.specs.Told.{meant, TellsOne, TellsTwo, told-small, told-next, told-until, told-release, told-finally, told-globally}
 
@@ -103,9 +103,10 @@ module _ (T : Plant) (A : AcceptedTable T) (rule : Rule) where
       → (a : Formula) → Below (T .props) a → RowsOf a
       → (i n : ℕ) → Occurs rule (one o (treeOf a)) i n → Numbered Row (part n (value a (suc n)) ∷ table a (suc n)) n
   one-rows o part e step tells a b rest i n c =
-      let h = one-part o (treeOf a) c e in
+      let above = one-above c in
+      let h = above-part above e in
       let x = i + nodesIn (treeOf a) in (
-        part-row o x i n (part n (value a (suc n))) (h .0) (one-op o (treeOf a) c) (one-begins o (treeOf a) c) (step n (value a (suc n)))
+        part-row o x i n (part n (value a (suc n))) (h .0) (above .op) (above-begins above) (step n (value a (suc n)))
             (λ asked v lv. tells n v (value a (suc n)) (word i v) (word x v) (shown T A rule a (h .1) b v lv) (small T A rule (c .short) x v) asked),
         rest i (suc n) (h .1),
       )
@@ -117,13 +118,14 @@ module _ (T : Plant) (A : AcceptedTable T) (rule : Rule) where
       → (a b : Formula) → Below (T .props) a → Below (T .props) b → RowsOf a → RowsOf b → (i n : ℕ) → Occurs rule (two o (treeOf a) (treeOf b)) i n
       → Numbered Row (table a n ++ part (n + parts a) (value a n) (value b (suc (n + parts a))) ∷ table b (suc (n + parts a))) n
   part-rows o part e step tells a b below-a below-b left right i n c =
-      let h = two-part o a (treeOf b) c e in
-      let first = two-left o a (treeOf b) c in
+      let above = two-above a c in
+      let h = above-part above e in
+      let first = two-left a c in
       let y = i + nodesIn (treeOf a) in
       let x = y + nodesIn (treeOf b) in
       let m = n + parts a in
       two-rows a n _ (left i n first) (
-        part-row o x y m (part m (value a n) (value b (suc m))) (h .0) (two-op o a (treeOf b) c) (two-begins o a (treeOf b) c) (step m (value a n) (value b (suc m)))
+        part-row o x y m (part m (value a n) (value b (suc m))) (h .0) (above .op) (above-begins above) (step m (value a n) (value b (suc m)))
             (λ asked v lv. tells m v (value a n) (value b (suc m)) (word y v) (word x v) (shown T A rule a first below-a v lv) (shown T A rule b (h .1) below-b v lv)
             (small T A rule (c .short) x v) asked),
         right y (suc m) (h .1),
@@ -131,14 +133,14 @@ module _ (T : Plant) (A : AcceptedTable T) (rule : Rule) where
 
   plain-rows : (o : Op) → isPart o ≡ false → (a b : Formula) → RowsOf a → RowsOf b → (i n : ℕ) → Occurs rule (two o (treeOf a) (treeOf b)) i n
       → Numbered Row (table a n ++ table b (n + parts a)) n
-  plain-rows o e a b left right i n c = two-rows a n _ (left i n (two-left o a (treeOf b) c)) (right (i + nodesIn (treeOf a)) (n + parts a) (two-plain o a (treeOf b) c e))
+  plain-rows o e a b left right i n c = two-rows a n _ (left i n (two-left a c)) (right (i + nodesIn (treeOf a)) (n + parts a) (above-plain (two-above a c) e))
 
   pub rows-right : (g : Formula) → Below (T .props) g → RowsOf g
   unfolding treeOf Below table isNext
   rows-right never k = λ i n c. tt
   rows-right always k = λ i n c. tt
   rows-right (prop p) k = λ i n c. tt
-  rows-right (neg a) k = λ i n c. rows-right a k i n (one-plain Not (treeOf a) c refl)
+  rows-right (neg a) k = λ i n c. rows-right a k i n (above-plain (one-above c) refl)
   rows-right (next a) k = one-rows Next nextPart refl (λ k b. refl) (told-next T A) a k (rows-right a k)
   rows-right (finally a) k = one-rows Finally (λ k b. untilPart k (λ l v. true) b) refl (λ k b. refl) (told-finally T A) a k (rows-right a k)
   rows-right (globally a) k = one-rows Globally (λ k b. releasePart k (λ l v. false) b) refl (λ k b. refl) (told-globally T A) a k (rows-right a k)

@@ -2,7 +2,6 @@
 use Prim.Native.Nat.{ℕ, suc, _+_, _≤_, _<_}
 use mathlib.Core.Path.{_≡_, sym, _∙_}
 use mathlib.Core.Bool.{true, false}
-use mathlib.Core.List.{List}
 use native.Mathlib.Omega.{arith}
 use lib.ListN.{length, getD}
 use Rattle.meaning.specs.Formula.{Formula, size, parts}
@@ -33,90 +32,57 @@ occurs-whole f few six = record {
   numbered = parts-at (ruleOf f) (treeOf f) (rule-stands f) (sym (nodes-tree f)) (omega (arith, nodes-tree f)) (omega (arith, count-tree f));
 }
 
--- a list with the operator's own node before it, where that is a part, and where not
-module _ (rule : Rule) (o : Op) (x : ℕ) (xs : List ℕ) (n : ℕ) (h : Numbered (PartAt rule) (own o x xs) n) where
-  numbered-own : isPart o ≡ true → PartAt rule x n × Numbered (PartAt rule) xs (suc n)
-  numbered-own e = rw e at h
+pub leaf-op : {rule : Rule} {o : Op} {i n : ℕ} → Occurs rule (leaf o) i n → opAt (rule .nodes) i ≡ o
+unfolding Stands
+leaf-op c = c .stands .0
 
-  numbered-rest : isPart o ≡ false → Numbered (PartAt rule) xs n
-  numbered-rest e = rw e at h
+-- an operator stands behind the last of its operands, u, which begins at node j, and z is the place behind it; the operator's own number,
+-- where it is a part, is n, and the operand's come after it
+pub record Above (rule : Rule) (o : Op) (u : Tree) (j n z : ℕ) : Type 0 where
+  pub op : opAt (rule .nodes) (j + nodesIn u) ≡ o
+  pub ends : z ≡ suc (j + nodesIn u)
+  pub inside : j + nodesIn u < rule .len
+  pub short : rule .len ≤ 32
+  pub stands : Stands (rule .nodes) u j
+  pub numbered : Numbered (PartAt rule) (own o (j + nodesIn u) (placed u j)) n
 
-module _ {rule : Rule} (o : Op) where
-  pub leaf-op : {i n : ℕ} → Occurs rule (leaf o) i n → opAt (rule .nodes) i ≡ o
-  unfolding Stands
-  leaf-op c = c .stands .0
+module _ {rule : Rule} {o : Op} {u : Tree} {j n z : ℕ} (c : Above rule o u j n z) where
+  -- its operand, where it is no part, and where it is one
+  pub above-plain : isPart o ≡ false → Occurs rule u j n
+  above-plain e = record { stands = c .stands; fits = omega (arith, c .inside); short = c .short; numbered = rw e at (c .numbered) }
 
-  -- with one operand: the operator's own number stands before the operand's
-  module _ (t : Tree) {i n : ℕ} (c : Occurs rule (one o t) i n) where
-    pub one-op : opAt (rule .nodes) (i + nodesIn t) ≡ o
-    unfolding Stands
-    one-op = c .stands .1
+  pub above-part : isPart o ≡ true → PartAt rule (j + nodesIn u) n × Occurs rule u j (suc n)
+  above-part e =
+      let h : PartAt rule (j + nodesIn u) n × Numbered (PartAt rule) (placed u j) (suc n) = rw e at (c .numbered) in
+      (h .0, record { stands = c .stands; fits = omega (arith, c .inside); short = c .short; numbered = h .1 })
 
-    pub one-plain : isPart o ≡ false → Occurs rule t i n
-    unfolding Stands nodesIn placed
-    one-plain e = record {
-      stands = c .stands .0;
-      fits = omega (arith, c .fits);
-      short = c .short;
-      numbered = numbered-rest rule o (i + nodesIn t) (placed t i) n (c .numbered) e;
-    }
+  -- the operand begins where it should
+  pub above-begins : getD (beginsOf (rule .nodes) (rule .len)) (j + nodesIn u) 0 ≡ j
+  above-begins = begins-tree (rule .nodes) (rule .len) (c .short) u j (c .stands) (omega (arith, c .inside))
 
-    pub one-part : isPart o ≡ true → PartAt rule (i + nodesIn t) n × Occurs rule t i (suc n)
-    unfolding Stands nodesIn placed
-    one-part e =
-        let h = numbered-own rule o (i + nodesIn t) (placed t i) n (c .numbered) e in
-        (h .0, record { stands = c .stands .0; fits = omega (arith, c .fits); short = c .short; numbered = h .1 })
+-- an operator with one operand
+pub one-above : {rule : Rule} {o : Op} {t : Tree} {i n : ℕ} → Occurs rule (one o t) i n → Above rule o t i n (i + nodesIn (one o t))
+unfolding Stands nodesIn placed
+one-above c = record { op = c .stands .1; ends = omega arith; inside = omega (arith, c .fits); short = c .short; stands = c .stands .0; numbered = c .numbered }
 
-    -- the operand begins where it should
-    pub one-begins : getD (beginsOf (rule .nodes) (rule .len)) (i + nodesIn t) 0 ≡ i
-    unfolding Stands nodesIn
-    one-begins = begins-tree (rule .nodes) (rule .len) (c .short) t i (c .stands .0) (omega (arith, c .fits))
+-- with two: its own number stands between theirs
+module _ {rule : Rule} {o : Op} (a : Formula) {u : Tree} {i n : ℕ} (c : Occurs rule (two o (treeOf a) u) i n) where
+  abbrev t : Tree
+  t = treeOf a
 
-    pub one-inside : i + nodesIn t < rule .len
-    unfolding nodesIn
-    one-inside = omega (arith, c .fits)
+  abbrev j : ℕ
+  j = i + nodesIn t
 
-  -- with two: it stands between theirs
-  module _ (a : Formula) (u : Tree) {i n : ℕ} (c : Occurs rule (two o (treeOf a) u) i n) where
-    abbrev t : Tree
-    t = treeOf a
+  abbrev numbers : Numbered (PartAt rule) (placed t i) n × Numbered (PartAt rule) (own o (j + nodesIn u) (placed u j)) (n + parts a)
+  unfolding placed
+  numbers =
+      let e : length (placed t i) ≡ parts a = length-placed t i ∙ count-tree a in
+      rw e at (numbered-append (PartAt rule) (placed t i) (own o (j + nodesIn u) (placed u j)) n .0 (c .numbered))
 
-    abbrev j : ℕ
-    j = i + nodesIn t
+  pub two-left : Occurs rule t i n
+  unfolding Stands nodesIn
+  two-left = record { stands = c .stands .0; fits = omega (arith, c .fits); short = c .short; numbered = numbers .0 }
 
-    abbrev numbers : Numbered (PartAt rule) (placed t i) n × Numbered (PartAt rule) (own o (j + nodesIn u) (placed u j)) (n + parts a)
-    unfolding placed
-    numbers =
-        let e : length (placed t i) ≡ parts a = length-placed t i ∙ count-tree a in
-        rw e at (numbered-append (PartAt rule) (placed t i) (own o (j + nodesIn u) (placed u j)) n .0 (c .numbered))
-
-    pub two-op : opAt (rule .nodes) (j + nodesIn u) ≡ o
-    unfolding Stands
-    two-op = c .stands .2
-
-    pub two-left : Occurs rule t i n
-    unfolding Stands nodesIn
-    two-left = record { stands = c .stands .0; fits = omega (arith, c .fits); short = c .short; numbered = numbers .0 }
-
-    pub two-plain : isPart o ≡ false → Occurs rule u j (n + parts a)
-    unfolding Stands nodesIn
-    two-plain e = record {
-      stands = c .stands .1;
-      fits = omega (arith, c .fits);
-      short = c .short;
-      numbered = numbered-rest rule o (j + nodesIn u) (placed u j) (n + parts a) (numbers .1) e;
-    }
-
-    pub two-part : isPart o ≡ true → PartAt rule (j + nodesIn u) (n + parts a) × Occurs rule u j (suc (n + parts a))
-    unfolding Stands nodesIn
-    two-part e =
-        let h = numbered-own rule o (j + nodesIn u) (placed u j) (n + parts a) (numbers .1) e in
-        (h .0, record { stands = c .stands .1; fits = omega (arith, c .fits); short = c .short; numbered = h .1 })
-
-    pub two-begins : getD (beginsOf (rule .nodes) (rule .len)) (j + nodesIn u) 0 ≡ j
-    unfolding Stands nodesIn
-    two-begins = begins-tree (rule .nodes) (rule .len) (c .short) u j (c .stands .1) (omega (arith, c .fits))
-
-    pub two-inside : j + nodesIn u < rule .len
-    unfolding nodesIn
-    two-inside = omega (arith, c .fits)
+  pub two-above : Above rule o u j (n + parts a) (i + nodesIn (two o t u))
+  unfolding Stands nodesIn
+  two-above = record { op = c .stands .2; ends = omega arith; inside = omega (arith, c .fits); short = c .short; stands = c .stands .1; numbered = numbers .1 }

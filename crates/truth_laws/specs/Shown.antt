@@ -10,11 +10,10 @@ use lib.Pow.{pow-mono}
 use lib.ListN.{length, getD, List·getD-eq-default}
 use borrow.Author.Tests.{lt-ltb}
 use Rattle.meaning.specs.Bit.{bit}
-use Rattle.meaning.specs.Formula.{Formula, never, always, prop, neg, next, finally, globally, until, release, and, or, implies, parts}
+use Rattle.meaning.specs.Formula.{Formula, never, always, prop, neg, next, finally, globally, until, release, and, or, implies}
 use Rattle.meaning.specs.Run.{Plant}
 use Rattle.meaning.specs.Limits.{AcceptedTable}
 use Rattle.syntax.specs.declared.Op.{Op}
-use Rattle.syntax.specs.declared.Op.the-variants.{False, True, Prop, Not, Next, Finally, Globally, Until, Release, And, Or, Implies}
 use Rattle.syntax.specs.declared.Rule.{Rule}
 use Rattle.syntax.specs.Print.{Below}
 use Rattle.words.specs.Lists.{list-at, length-list}
@@ -27,9 +26,9 @@ use Rattle.truth.specs.Nodes.{havings, ownOf, madeOf, wordAt}
 use Rattle.truth.specs.Tables.{wordsIn}
 use Rattle.truth_laws.specs.Begins.{begins-before}
 use Rattle.truth_laws.specs.Words.{after-small, word-small, word-made}
-use Rattle.truth_laws.specs.Tree.{Tree, leaf, one, two, treeOf, nodesIn}
+use Rattle.truth_laws.specs.Tree.{Tree, leaf, treeOf, nodesIn}
 use Rattle.truth_laws.specs.Numbers.{PartAt}
-use Rattle.truth_laws.specs.Occurs.{Occurs, leaf-op, one-op, one-plain, one-part, one-inside, two-op, two-left, two-plain, two-part, two-begins, two-inside}
+use Rattle.truth_laws.specs.Occurs.{Occurs, leaf-op, Above, above-plain, above-part, above-begins, one-above, two-left, two-above}
 
 -- part k, one of the six, at the valuation v
 pub own-wholly : (v k : ℕ) → k < 6 → ownOf v k ≡ wholly (bit v k)
@@ -76,43 +75,25 @@ module _ (T : Plant) (A : AcceptedTable T) (rule : Rule) where
   own-word v x k c = ap (ownOf v) (c .number) ∙ own-wholly v k (c .few)
 
   -- by how many operands it takes
-  leaf-word : (o : Op) {i n : ℕ} → Occurs rule (leaf o) i n → (v : ℕ) → v < 64
+  leaf-word : {o : Op} {i n : ℕ} → Occurs rule (leaf o) i n → (v : ℕ) → v < 64
       → word (i + nodesIn (leaf o)) v ≡ madeOf o (havings label) (word (getD begins i 0) v) (word i v) (ownOf v (getD numbers i 0))
   unfolding nodesIn
-  leaf-word o {i} c v lv =
+  leaf-word {o} {i} c v lv =
       let e : i + 1 ≡ suc i = omega arith in
-      ap (λ p. word p v) e ∙ made (c .short) o i v (leaf-op o c) (omega (arith, c .fits)) lv
+      ap (λ p. word p v) e ∙ made (c .short) o i v (leaf-op c) (omega (arith, c .fits)) lv
 
-  one-word : (o : Op) (t : Tree) {i n : ℕ} → Occurs rule (one o t) i n → (v : ℕ) → v < 64
-      → word (i + nodesIn (one o t)) v
-      ≡ madeOf o (havings label) (word (getD begins (i + nodesIn t) 0) v) (word (i + nodesIn t) v) (ownOf v (getD numbers (i + nodesIn t) 0))
-  unfolding nodesIn
-  one-word o t {i} c v lv =
-      let e : i + suc (nodesIn t) ≡ suc (i + nodesIn t) = omega arith in
-      ap (λ p. word p v) e ∙ made (c .short) o (i + nodesIn t) v (one-op o t c) (one-inside o t c) lv
-
-  two-word : (o : Op) (a : Formula) (u : Tree) {i n : ℕ} → Occurs rule (two o (treeOf a) u) i n → (v : ℕ) → v < 64
-      → word (i + nodesIn (two o (treeOf a) u)) v
-      ≡ madeOf o (havings label) (word (i + nodesIn (treeOf a)) v) (word (i + nodesIn (treeOf a) + nodesIn u) v) (ownOf v (getD numbers (i + nodesIn (treeOf a) + nodesIn u) 0))
-  unfolding nodesIn
-  two-word o a u {i} c v lv =
-      let j = i + nodesIn (treeOf a) in
-      let e : i + suc (nodesIn (treeOf a) + nodesIn u) ≡ suc (j + nodesIn u) = omega arith in
-      ap (λ p. word p v) e ∙ made (c .short) o (j + nodesIn u) v (two-op o a u c) (two-inside o a u c) lv
-      ∙ ap (λ p. madeOf o (havings label) (word p v) (word (j + nodesIn u) v) (ownOf v (getD numbers (j + nodesIn u) 0))) (two-begins o a u c)
+  above-word : {o : Op} {u : Tree} {j n z : ℕ} → Above rule o u j n z → (v : ℕ) → v < 64
+      → word z v ≡ madeOf o (havings label) (word j v) (word (j + nodesIn u) v) (ownOf v (getD numbers (j + nodesIn u) 0))
+  above-word {o} {u} {j} c v lv =
+      ap (λ p. word p v) (c .ends) ∙ made (c .short) o (j + nodesIn u) v (c .op) (c .inside) lv
+      ∙ ap (λ p. madeOf o (havings label) (word p v) (word (j + nodesIn u) v) (ownOf v (getD numbers (j + nodesIn u) 0))) (above-begins c)
 
   -- a part's word is its own value
   abbrev Own : Op → Type 0
   Own o = (isPart o ≡ true) × ((h : List ℕ) (x y w : ℕ) → madeOf o h x y w ≡ w)
 
-  part-one : (o : Op) → Own o → (t : Tree) {i n : ℕ} → Occurs rule (one o t) i n → (v : ℕ) → v < 64
-      → wholly (bit v n) ≡ word (i + nodesIn (one o t)) v
-  part-one o (e, own) t {i} {n} c v lv = sym (one-word o t c v lv ∙ own _ _ _ _ ∙ own-word v (i + nodesIn t) n (one-part o t c e .0))
-
-  part-two : (o : Op) → Own o → (a : Formula) (u : Tree) {i n : ℕ} → Occurs rule (two o (treeOf a) u) i n → (v : ℕ) → v < 64
-      → wholly (bit v (n + parts a)) ≡ word (i + nodesIn (two o (treeOf a) u)) v
-  part-two o (e, own) a u {i} {n} c v lv =
-      sym (two-word o a u c v lv ∙ own _ _ _ _ ∙ own-word v (i + nodesIn (treeOf a) + nodesIn u) (n + parts a) (two-part o a u c e .0))
+  part-word : {o : Op} {u : Tree} {j n z : ℕ} → Above rule o u j n z → Own o → (v : ℕ) → v < 64 → wholly (bit v n) ≡ word z v
+  part-word {u} {j} {n} c (e, own) v lv = sym (above-word c v lv ∙ own _ _ _ _ ∙ own-word v (j + nodesIn u) n (above-part c e .0))
 
   prop-word : (p : ℕ) → p < 8 → havingOf label p ≡ getD (havings label) p 0
   unfolding havings
@@ -121,31 +102,31 @@ module _ (T : Plant) (A : AcceptedTable T) (rule : Rule) where
   pub shown : (g : Formula) {i n : ℕ} → Occurs rule (treeOf g) i n → Below (T .props) g → (v : ℕ) → v < 64
       → Shows T g n v (word (i + nodesIn (treeOf g)) v)
   unfolding treeOf Below
-  shown never {n} c b v lv = subst (Shows T never n v) (sym (leaf-word False c v lv)) (shows-never T A n v)
-  shown always {n} c b v lv = subst (Shows T always n v) (sym (leaf-word True c v lv)) (shows-always T A n v)
+  shown never {n} c b v lv = subst (Shows T never n v) (sym (leaf-word c v lv)) (shows-never T A n v)
+  shown always {n} c b v lv = subst (Shows T always n v) (sym (leaf-word c v lv)) (shows-always T A n v)
   shown (prop p) {n} c b v lv =
-      subst (Shows T (prop p) n v) (prop-word p (omega (arith, A .few-props)) ∙ sym (leaf-word (Prop p) c v lv)) (shows-prop T A n v p)
-  shown (neg a) {i} {n} c b v lv = subst (Shows T (neg a) n v) (sym (one-word Not (treeOf a) c v lv))
-      (shows-neg T A n v a _ (small (c .short) (i + nodesIn (treeOf a)) v) (shown a (one-plain Not (treeOf a) c refl) b v lv))
-  shown (next a) {n} c b v lv = subst (Shows T (next a) n v) (part-one Next (refl, λ h x y w. refl) (treeOf a) c v lv) (shows-next T A n v a)
+      subst (Shows T (prop p) n v) (prop-word p (omega (arith, A .few-props)) ∙ sym (leaf-word c v lv)) (shows-prop T A n v p)
+  shown (neg a) {i} {n} c b v lv = subst (Shows T (neg a) n v) (sym (above-word (one-above c) v lv))
+      (shows-neg T A n v a _ (small (c .short) (i + nodesIn (treeOf a)) v) (shown a (above-plain (one-above c) refl) b v lv))
+  shown (next a) {n} c b v lv = subst (Shows T (next a) n v) (part-word (one-above c) (refl, λ h x y w. refl) v lv) (shows-next T A n v a)
   shown (finally a) {n} c b v lv =
-      subst (Shows T (finally a) n v) (part-one Finally (refl, λ h x y w. refl) (treeOf a) c v lv) (shows-finally T A n v a)
+      subst (Shows T (finally a) n v) (part-word (one-above c) (refl, λ h x y w. refl) v lv) (shows-finally T A n v a)
   shown (globally a) {n} c b v lv =
-      subst (Shows T (globally a) n v) (part-one Globally (refl, λ h x y w. refl) (treeOf a) c v lv) (shows-globally T A n v a)
+      subst (Shows T (globally a) n v) (part-word (one-above c) (refl, λ h x y w. refl) v lv) (shows-globally T A n v a)
   shown (until a b) {n} c k v lv =
-      subst (Shows T (until a b) n v) (part-two Until (refl, λ h x y w. refl) a (treeOf b) c v lv) (shows-until T A n v a b)
+      subst (Shows T (until a b) n v) (part-word (two-above a c) (refl, λ h x y w. refl) v lv) (shows-until T A n v a b)
   shown (release a b) {n} c k v lv =
-      subst (Shows T (release a b) n v) (part-two Release (refl, λ h x y w. refl) a (treeOf b) c v lv) (shows-release T A n v a b)
+      subst (Shows T (release a b) n v) (part-word (two-above a c) (refl, λ h x y w. refl) v lv) (shows-release T A n v a b)
   shown (and a b) {n} c k v lv =
-      let p = shown a (two-left And a (treeOf b) c) (k .0) v lv in
-      let q = shown b (two-plain And a (treeOf b) c refl) (k .1) v lv in
-      subst (Shows T (and a b) n v) (sym (two-word And a (treeOf b) c v lv)) (shows-and T A n v a b _ _ p q)
+      let p = shown a (two-left a c) (k .0) v lv in
+      let q = shown b (above-plain (two-above a c) refl) (k .1) v lv in
+      subst (Shows T (and a b) n v) (sym (above-word (two-above a c) v lv)) (shows-and T A n v a b _ _ p q)
   shown (or a b) {n} c k v lv =
-      let p = shown a (two-left Or a (treeOf b) c) (k .0) v lv in
-      let q = shown b (two-plain Or a (treeOf b) c refl) (k .1) v lv in
-      subst (Shows T (or a b) n v) (sym (two-word Or a (treeOf b) c v lv)) (shows-or T A n v a b _ _ p q)
+      let p = shown a (two-left a c) (k .0) v lv in
+      let q = shown b (above-plain (two-above a c) refl) (k .1) v lv in
+      subst (Shows T (or a b) n v) (sym (above-word (two-above a c) v lv)) (shows-or T A n v a b _ _ p q)
   shown (implies a b) {i} {n} c k v lv =
-      let p = shown a (two-left Implies a (treeOf b) c) (k .0) v lv in
-      let q = shown b (two-plain Implies a (treeOf b) c refl) (k .1) v lv in
-      subst (Shows T (implies a b) n v) (sym (two-word Implies a (treeOf b) c v lv))
+      let p = shown a (two-left a c) (k .0) v lv in
+      let q = shown b (above-plain (two-above a c) refl) (k .1) v lv in
+      subst (Shows T (implies a b) n v) (sym (above-word (two-above a c) v lv))
       (shows-implies T A n v a b _ _ p q (small (c .short) (i + nodesIn (treeOf a)) v))
