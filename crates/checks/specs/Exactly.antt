@@ -15,7 +15,7 @@ use Rattle.meaning.specs.Run as run
 use Rattle.words.specs.Word.{onlyOf, withoutOf}
 use Rattle.words.specs.Truth.{and-says, or-says, not-so, says-and, says-itself, says-same}
 use Rattle.words.specs.Tests.{lt-says}
-use Rattle.words.specs.Laws.{bit-and, bit-without, bit-only, bit-all, bit-zero, same-bits}
+use Rattle.words.specs.Laws.{bit-left, bit-only, bit-all, bit-zero, same-bits}
 use Rattle.words.specs.Unions.{union-none, none-union}
 use Rattle.words.specs.Within.{members-below}
 use Rattle.words.specs.Lists.{entry-inside}
@@ -97,14 +97,14 @@ module _ (b : Bool) (n x : ℕ) (few : n ≤ 64) (low : x < 2 ^ 64) where
   stray-none : (withoutOf x allowed ≡ 0) ↔ ((s : ℕ) → So (bit x s) → So b × (s < n))
   stray-none = (
     λ e s i. bit-allowed s .0 (member (bit x s) (bit allowed s) i
-        (sym (bit-without x allowed-low s (members-below 64 x .0 low s i)) ∙ ap (λ z. bit z s) e ∙ bit-zero s)),
+        (sym (bit-left x allowed low allowed-low s) ∙ ap (λ z. bit z s) e ∙ bit-zero s)),
     λ h. same-bits (withoutOf x allowed) 0 (λ s. not-so (bit (withoutOf x allowed) s) (none h s) ∙ sym (bit-zero s)),
   )
     where
       none : ((s : ℕ) → So (bit x s) → So b × (s < n)) → (s : ℕ) → So (bit (withoutOf x allowed) s) → ⊥
       none h s i =
-          let here = and-says (bit x s) (bit (2 ^ 64 - 1 - allowed) s) .0 (sym (bit-and x (2 ^ 64 - 1 - allowed) s) ∙ i) .0 in
-          no-member (bit x s) (bit allowed s) (bit-allowed s .1 (h s here)) (sym (bit-without x allowed-low s (members-below 64 x .0 low s here)) ∙ i)
+          let left = sym (bit-left x allowed low allowed-low s) ∙ i in
+          no-member (bit x s) (bit allowed s) (bit-allowed s .1 (h s (and-says (bit x s) (not (bit allowed s)) .0 left .0))) left
 
 module _ (T : run.Plant) (f : Formula) (few : T .states ≤ 64) where
   -- the test with the table's states and the rule's valuations

@@ -10,7 +10,7 @@ use Rattle.syntax.specs.declared.Op.{Op}
 use Rattle.syntax.specs.declared.Op.the-variants.{False, True, Prop, Not, Next, Finally, Globally, Until, Release, And, Or, Implies}
 use Rattle.syntax.specs.Postfix.{sides, whole}
 use Rattle.syntax.specs.Value.{temporalDigit, count}
-use Rattle.rule.specs.Valid.{every}
+use Rattle.meaning.specs.Step.{every}
 
 module _ (p : Op → Bool) {os : List Op} {b : Bool} (inv : every p os ≡ b) where
   pub every-on : {o : Op} {ps : List Op} → os ≡ o ∷ ps → p o ≡ true → every p ps ≡ b

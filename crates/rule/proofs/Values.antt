@@ -1,15 +1,16 @@
 -- Check 9: a value is accepted exactly where it is that of a rule within the limits.
 use Prim.Native.Nat.{ℕ, zero, suc, _-_, _≤_}
-use mathlib.Core.Path.{_≡_, refl, sym, ap, subst, _∙_}
+use mathlib.Core.Path.{_≡_, refl, sym, ap, _∙_}
 use mathlib.Core.Logic.{_↔_}
 use mathlib.Core.List.{List, [], _∷_, _++_}
-use mathlib.Core.Bool.{Bool, true, false, _&&_}
+use mathlib.Core.Bool.{Bool, true, _&&_, false≢true}
 use native.Mathlib.Omega.{arith}
 use borrow.Author.Tests.{lt-ltb, ltb-true, le-leb, leb-true}
-use lib.Dec.{T}
 use lib.ListN.{length, take, drop, replicate, length-drop, take-append-drop}
 use lib.Seq.{length-take-le}
 use Rattle.meaning.specs.Formula.{Formula, never, always, prop, neg, next, finally, globally, until, release, and, or, implies, size, parts}
+use Rattle.meaning.specs.Step.{every}
+use Rattle.words.specs.Lists.{every-append}
 use Rattle.syntax.specs.declared.Op.{Op}
 use Rattle.syntax.specs.declared.Op.the-variants.{False, True, Prop, Not, Next, Finally, Globally, Until, Release, And, Or, Implies}
 use Rattle.syntax.specs.declared.Node.{Node}
@@ -20,24 +21,21 @@ use Rattle.syntax.specs.Value.{blank, nodesOf, opsOf, ruleOf, held, beyond, cou
 use Rattle.syntax.proofs.Lexing.{both-true}
 use Rattle.syntax.proofs.Whole.{of-rule, rule-whole}
 use Rattle.syntax.proofs.Values.{nodes-ops, length-nodes, length-postfix, held-is, beyond-is, parts-held, decode-held}
-use Rattle.rule.specs.Valid.{isFalse, known, every, validOf, RuleValue}
-
-false-true : false ≡ true → ⊥
-false-true e = subst T (sym e) tt
+use Rattle.rule.specs.Valid.{isFalse, known, validOf, RuleValue}
 
 false-op : (o : Op) → isFalse o ≡ true → o ≡ False
 false-op False h = refl
-false-op True h = absurd (false-true h)
-false-op (Prop k) h = absurd (false-true h)
-false-op Not h = absurd (false-true h)
-false-op Next h = absurd (false-true h)
-false-op Finally h = absurd (false-true h)
-false-op Globally h = absurd (false-true h)
-false-op Until h = absurd (false-true h)
-false-op Release h = absurd (false-true h)
-false-op And h = absurd (false-true h)
-false-op Or h = absurd (false-true h)
-false-op Implies h = absurd (false-true h)
+false-op True h = absurd (false≢true h)
+false-op (Prop k) h = absurd (false≢true h)
+false-op Not h = absurd (false≢true h)
+false-op Next h = absurd (false≢true h)
+false-op Finally h = absurd (false≢true h)
+false-op Globally h = absurd (false≢true h)
+false-op Until h = absurd (false≢true h)
+false-op Release h = absurd (false≢true h)
+false-op And h = absurd (false≢true h)
+false-op Or h = absurd (false≢true h)
+false-op Implies h = absurd (false≢true h)
 
 all-blank : (ns : List Node) → every isFalse (opsOf ns) ≡ true → ns ≡ replicate (length ns) blank
 unfolding every opsOf
@@ -50,15 +48,6 @@ blanks : (n : ℕ) → every isFalse (opsOf (replicate n blank)) ≡ true
 unfolding every opsOf
 blanks zero = refl
 blanks (suc n) = blanks n
-
-and-assoc : (x y z : Bool) → (x && (y && z)) ≡ ((x && y) && z)
-and-assoc true y z = refl
-and-assoc false y z = refl
-
-every-append : (p : Op → Bool) (os ps : List Op) → every p (os ++ ps) ≡ (every p os && every p ps)
-unfolding every
-every-append p [] ps = refl
-every-append p (o ∷ os) ps = ap (λ x. p o && x) (every-append p os ps) ∙ and-assoc (p o) (every p os) (every p ps)
 
 both : {x y : Bool} → x ≡ true → y ≡ true → (x && y) ≡ true
 both {x} {y} e f = ap (λ b. b && y) e ∙ f

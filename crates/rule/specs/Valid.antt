@@ -1,10 +1,10 @@
 -- Check 9: which values are those of rules within the limits.
 use Prim.Native.Nat.{ℕ, _≤_}
 use mathlib.Core.Path.{_≡_}
-use mathlib.Core.List.{List, [], _∷_}
 use mathlib.Core.Bool.{Bool, true, false, _&&_}
 use lib.Dec.{ltb, leb}
 use Rattle.meaning.specs.Formula.{Formula, size, parts}
+use Rattle.meaning.specs.Step.{every}
 use Rattle.syntax.specs.declared.Op.{Op}
 use Rattle.syntax.specs.declared.Op.the-variants.{False, True, Prop, Not, Next, Finally, Globally, Until, Release, And, Or, Implies}
 use Rattle.syntax.specs.declared.Rule.{Rule}
@@ -40,10 +40,6 @@ known q Release = true
 known q And = true
 known q Or = true
 known q Implies = true
-
-unfoldable pub every : (Op → Bool) → List Op → Bool
-every p [] = true
-every p (o ∷ os) = p o && every p os
 
 -- r is the value of a rule within the limits, with propositions below q
 pub record RuleValue (r : Rule) (q : ℕ) : Type 0 where

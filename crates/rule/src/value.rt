@@ -4,7 +4,8 @@ use syntax::Rule;
 ghost use mathlib.Core.Path.{_≡_};
 ghost use Rattle.syntax.specs.Postfix.{whole};
 ghost use Rattle.syntax.specs.Value.{held, beyond, temporalDigit, count};
-ghost use Rattle.rule.specs.Valid.{isFalse, known, every};
+ghost use Rattle.meaning.specs.Step.{every};
+ghost use Rattle.rule.specs.Valid.{isFalse, known};
 
 // Whether an operator is no proposition from `props` on.
 fn is_known(op: Op, props: usize) -> bool

@@ -1,7 +1,6 @@
 -- With the rule's moves and settled parts, the rounds leave the live set.
 use Prim.Native.Nat.{ℕ, zero, suc, _+_, _-_, _^_, _≤_, _<_}
 use native.Mathlib.Omega.{arith}
-use native.Mathlib.Nat.{le-of-suc-le-suc, not-suc-le-zero}
 use native.Mathlib.Decide.{decLt}
 use mathlib.Core.Path.{_≡_, refl, sym, ap, _∙_}
 use mathlib.Core.Bool.{true}
@@ -10,7 +9,7 @@ use lib.ListN.{length, getD, take, length-append, length-map, List·getD-append}
 use lib.Seq.{take-suc, take-length, getD-append-add}
 use borrow.Author.Tests.{lt-ltb, le-ltb}
 use Rattle.words.specs.Below.{wordOf}
-use Rattle.words.specs.Lists.{words-at, words-same}
+use Rattle.words.specs.Lists.{at-map, words-at, words-same}
 use Rattle.words.specs.Unions.{word-at}
 use Rattle.words.specs.Within.{and-same}
 use Rattle.pairs.specs.Sets.{sameOf}
@@ -30,12 +29,6 @@ use Rattle.model.specs.Settle.{settle-same}
 use Rattle.sweeps.specs.Sweeps.{reachingOf}
 use Rattle.sweeps.specs.Right.{Moves, movers-right, reaching-right}
 use Rattle.sweeps.specs.Rounds.{everyOf, settledIn, goalOf, goalsAfter, roundOf, settleOf}
-
--- an entry of a list mapped, whatever stands beyond
-at-map : {X Y : Type 0} (h : X → Y) (l : List X) (i : ℕ) (d : X) (e : Y) → i < length l → getD (map h l) i e ≡ h (getD l i d)
-at-map h [] i d e l = absurd (not-suc-le-zero l)
-at-map h (x ∷ xs) zero d e l = refl
-at-map h (x ∷ xs) (suc i) d e l = at-map h xs i d e (le-of-suc-le-suc l)
 
 module _ (T : Plant) (f : Formula) (A : AcceptedTable T) (small : Small f) (leave enter : List ℕ) (m : Moves T f leave enter)
     (done : List ℕ) (rows : Rows T f done settled) where

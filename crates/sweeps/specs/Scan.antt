@@ -1,7 +1,6 @@
 -- The scan for moves, word by word: from the states still without a move those are dropped that have one into the word at hand.
 use Prim.Native.Nat.{ℕ, _+_, _-_, _^_, _≤_, _<_}
 use native.Mathlib.Omega.{arith}
-use native.Mathlib.Decide.{decLt}
 use native.Mathlib.Nat.{lt-of-le-of-lt}
 use mathlib.Core.Path.{_≡_, refl, sym, ap, _∙_}
 use mathlib.Core.Bool.{Bool, true, false, So, _&&_, _||_, not, false≢true}
@@ -14,21 +13,13 @@ use borrow.Author.Tests.{lt-ltb, eqb-true, ne-eqb, not-false}
 use Rattle.meaning.specs.Bit.{bit}
 use Rattle.words.specs.Word.{withoutOf, onlyOf}
 use Rattle.words.specs.Below.{unionBelow}
-use Rattle.words.specs.Laws.{bit-and, bit-or, bit-zero, bit-only, bit-single, bit-above, bit-without, same-bits}
+use Rattle.words.specs.Laws.{bit-and, bit-or, bit-zero, bit-only, bit-single, bit-left, same-bits}
 use Rattle.words.specs.Lowest.{lowestOf, othersOf, lowest-lt, bit-lowest, bit-others}
 use Rattle.words.specs.Lists.{entry-inside}
 use Rattle.words.specs.Folds.{any-found, any-of}
 use Rattle.words.specs.Unions.{union-more, bit-union, bit-wordOf, some-member}
 use Rattle.words.specs.Truth.{so-ext, not-so, so-not-not, and-says}
 use Rattle.moves.specs.Back.{meets, preOf, pre-none}
-
--- members without others, where both are words
-bit-left : (x y : ℕ) → x < 2 ^ 64 → y < 2 ^ 64 → (k : ℕ) → bit (withoutOf x y) k ≡ (bit x k && not (bit y k))
-bit-left x y hx hy k = go (decLt k 64)
-  where
-    go : Dec (k < 64) → bit (withoutOf x y) k ≡ (bit x k && not (bit y k))
-    go (yes l) = bit-without x hy k l
-    go (no h) = rw (bit-and, bit-above 64 {x = x} {k = k} hx (omega arith))
 
 -- a state is one of the target's predecessors where its entry meets the target
 bit-pre : (next : List ℕ) (target s : ℕ) → bit (preOf next target) s ≡ meets next target s

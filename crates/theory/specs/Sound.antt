@@ -5,7 +5,7 @@ use mathlib.Core.Path.{_≡_, sym, ap, _∙_}
 use mathlib.Core.Logic.{⊎-elim}
 use mathlib.Core.Bool.{So}
 use mathlib.Core.List.{List, map}
-use lib.ListN.{length, getD, length-map, List·getD-map}
+use lib.ListN.{length, getD, length-map}
 use Rattle.meaning.specs.Bit.{bit}
 use Rattle.graphs.specs.Lasso.{Ring}
 use Rattle.meaning.specs.Formula.{Formula}
@@ -17,27 +17,25 @@ use Rattle.theory.specs.Until.{Again}
 use Rattle.theory.specs.Join.{below-or-beyond, in-stem, in-loop}
 use Rattle.theory.specs.Lasting.{lasting}
 use Rattle.theory.specs.Node.{node, node-first, node-second, stateOf, valuesOf, valid, valid-says, edge, settledAt, goals, each-goal}
-use Rattle.theory.specs.Ring.{getD-any, ring-first, ring-moves, ring-within, ring-meets, ring-again}
+use Rattle.theory.specs.Ring.{ring-first, ring-moves, ring-within, ring-meets, ring-again}
+use Rattle.words.specs.Lists.{at-map}
 use Rattle.words.specs.Truth.{and-says}
 
 -- a lasso seen through g
 abbrev image : (ℕ → ℕ) → Lasso → Lasso
 image g K = record { stem = map g (K .stem); loop = map g (K .loop) }
 
-through : (g : ℕ → ℕ) (l : List ℕ) (i : ℕ) → i < length l → getD (map g l) i 0 ≡ g (getD l i 0)
-through g l i lt = getD-any (map g l) i 0 (g 0) (rw length-map lt) ∙ List·getD-map g l i 0
-
 image-at : (g : ℕ → ℕ) (K : Lasso) → 0 < length (K .loop) → (i : ℕ) → stateAt (image g K) i ≡ g (stateAt K i)
 image-at g K loops i = ⊎-elim stem (λ (j, e). round j e) (below-or-beyond (length (K .stem)) i)
   where
     stem : i < length (K .stem) → stateAt (image g K) i ≡ g (stateAt K i)
-    stem lt = in-stem (image g K) i (rw length-map lt) ∙ through g (K .stem) i lt ∙ ap g (sym (in-stem K i lt))
+    stem lt = in-stem (image g K) i (rw length-map lt) ∙ at-map g (K .stem) i 0 0 lt ∙ ap g (sym (in-stem K i lt))
 
     round : (j : ℕ) → i ≡ length (K .stem) + j → stateAt (image g K) i ≡ g (stateAt K i)
     round j e =
         let there : stateAt (image g K) (length (K .stem) + j) ≡ getD (map g (K .loop)) (j % length (K .loop)) 0 =
         rw (length-map (K .stem) g, length-map (K .loop) g) at (in-loop (image g K) j) in
-        rw e (there ∙ through g (K .loop) (j % length (K .loop)) (mod-lt j loops) ∙ ap g (sym (in-loop K j)))
+        rw e (there ∙ at-map g (K .loop) (j % length (K .loop)) 0 0 (mod-lt j loops) ∙ ap g (sym (in-loop K j)))
 
 -- the states of a lasso of nodes
 abbrev pub ringStates : List ℕ → List ℕ → Lasso
@@ -65,7 +63,7 @@ module _ (T : Plant) (f : Formula) (s v : ℕ) (low : s < 64) (xs ys : List ℕ)
     moves = λ i. rw (state i, state (suc i)) (steps i .0);
     fair = λ j lt.
         let (i, h, m) = each-at _ 0 (T .fair) (each-goal T f _ .0 (each-of _ (goals T f) (ring-meets l)) .0) j lt in
-        (i, rw length-map h, rw (through stateOf ys i h) m);
+        (i, rw length-map h, rw (at-map stateOf ys i 0 0 h) m);
   }
 
   settled-again : Each (λ c. Again (λ i. settledAt T c (stateAt K i))) (table f 0)

@@ -1,9 +1,9 @@
 -- The laws of the lists that a loop over 0, 1, .. n - 1 fills.
 use Prim.Native.Nat.{ℕ, zero, suc, _+_, _<_}
 use mathlib.Core.Path.{_≡_, refl, sym, ap, ap₂, _∙_}
-use mathlib.Core.Bool.{Bool, So, false≢true}
+use mathlib.Core.Bool.{Bool, So, _&&_, false≢true, and-assoc}
 use mathlib.Core.Logic.{⊎-elim}
-use mathlib.Core.List.{List, [], _∷_}
+use mathlib.Core.List.{List, [], _∷_, _++_, map}
 use native.Mathlib.Omega.{arith}
 use native.Mathlib.Decide.{ℕ-discrete, decLt}
 use lib.Arith.{lt-of-le-ne}
@@ -13,11 +13,26 @@ use lib.ListN.{length, getD, set, replicate, length-append, length-set, length-r
 use lib.Seq.{getD-at, ext-getD, getD-set-same, getD-set-other}
 use borrow.Author.Tests.{lt-ltb, le-ltb, ltb-true}
 use Rattle.meaning.specs.Bit.{bit}
+use Rattle.meaning.specs.Step.{every}
 use Rattle.words.specs.Laws.{bit-zero}
 use Rattle.words.specs.Word.{onlyOf}
 use Rattle.words.specs.Below.{listBelow, filled, wordsBelow}
 use Rattle.words.specs.Tests.{below-cases}
 use Rattle.words.specs.Truth.{so-ext}
+
+-- ---- lists of anything
+
+-- an entry of a list mapped, whatever stands beyond
+pub at-map : {A B : Type 0} (h : A → B) (l : List A) (i : ℕ) (d : A) (e : B) → i < length l → getD (map h l) i e ≡ h (getD l i d)
+at-map h [] i d e l = absurd (omega arith)
+at-map h (x ∷ xs) zero d e l = refl
+at-map h (x ∷ xs) (suc i) d e l = at-map h xs i d e (omega arith)
+
+-- a test of two lists
+pub every-append : {A : Type 0} (t : A → Bool) (xs ys : List A) → every t (xs ++ ys) ≡ (every t xs && every t ys)
+unfolding every
+every-append t [] ys = refl
+every-append t (x ∷ xs) ys = rw (every-append t xs ys) (sym (and-assoc (t x) (every t xs) (every t ys)))
 
 -- ---- listBelow
 

@@ -6,7 +6,8 @@ use native.Mathlib.Omega.{arith}
 use borrow.Author.Needs.{needs}
 use Rattle.syntax.specs.Value.{held}
 use Rattle.syntax.proofs.Held.{full, opAt, heldFrom, stored-few, held-start, held-turn, held-end}
-use Rattle.rule.specs.Valid.{known, every}
+use Rattle.meaning.specs.Step.{every}
+use Rattle.rule.specs.Valid.{known}
 use Rattle.rule.proofs.Turns.{every-on, every-stops, every-ends}
 use Rattle.rule.proofs.value.all_known.Statement.{statement}
 use Rattle.rule.proofs.value.all_known.Tie as tie

@@ -7,7 +7,8 @@ use borrow.Author.Needs.{needs}
 use lib.ListN.{drop}
 use Rattle.syntax.specs.Value.{opsOf, beyond}
 use Rattle.syntax.proofs.Held.{full, opAt, ops-turn, ops-end}
-use Rattle.rule.specs.Valid.{isFalse, every}
+use Rattle.meaning.specs.Step.{every}
+use Rattle.rule.specs.Valid.{isFalse}
 use Rattle.rule.proofs.Turns.{every-on, every-stops, every-ends}
 use Rattle.rule.proofs.value.rest_blank.Statement.{statement}
 use Rattle.rule.proofs.value.rest_blank.Tie as tie
