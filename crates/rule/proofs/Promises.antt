@@ -25,7 +25,8 @@ use Rattle.rule.specs.declared.Printed.{Printed}
 use Rattle.rule.specs.declared.Printed.the-variants.{Text, Refused as NoText}
 use Rattle.rule.specs.Reading.{refusedAs, accepted, textRead, ruleRead}
 use Rattle.rule.specs.Valid.{validOf, RuleValue}
-use Rattle.rule.specs.Printing.{textOf, over, noPrint, printAnswer, printBuffer}
+use Rattle.words.specs.Over.{over}
+use Rattle.rule.specs.Printing.{textOf, noPrint, printAnswer, printBuffer}
 use Rattle.rule.specs.Paper.{Beside, Takes, Because}
 use Rattle.rule.proofs.Judged.{reads-rule, Accepts, text-accepted}
 use Rattle.rule.proofs.Values.{valid-exactly}

@@ -1,10 +1,11 @@
 -- What printing a rule value answers, and what it leaves in the buffer.
 use Prim.Native.Nat.{ℕ}
 use mathlib.Core.Bool.{cond}
-use mathlib.Core.List.{List, [], _∷_, _++_}
+use mathlib.Core.List.{List, [], _∷_}
 use lib.Dec.{ltb}
-use lib.ListN.{length, drop}
+use lib.ListN.{length}
 use Rattle.meaning.specs.Formula.{Formula}
+use Rattle.words.specs.Over.{over}
 use Rattle.answers.specs.declared.Kind.{Kind}
 use Rattle.answers.specs.declared.Kind.the-variants.{Value, Room}
 use Rattle.answers.specs.Paper.{refusedAt}
@@ -25,10 +26,6 @@ topText (f ∷ fs) = print f
 -- the printed text of the rule that a value's nodes are
 abbrev pub textOf : Rule → List ℕ
 textOf r = topText (decode (held r) [])
-
--- a text laid over the start of a buffer, whose rest stays
-abbrev pub over : List ℕ → List ℕ → List ℕ
-over t old = t ++ drop (length t) old
 
 abbrev pub noPrint : Kind → Printed
 noPrint k = Refused (refusedAt k 0)

@@ -14,7 +14,7 @@ use Rattle.graphs.specs.Sweep.{goes, goes-iff}
 use Rattle.graphs.specs.Search.{fewer}
 use Rattle.graphs.specs.Fair.{Fair}
 use Rattle.graphs.specs.Lasso.{Tour, Ring, Trail, trail-start, trail-on, trail-end}
-use Rattle.walk.specs.Over
+use Rattle.words.specs.Over
 use Rattle.walk.specs.Written.{states, Written, written-start, written-on, written-join, written-widen}
 use Rattle.words.specs.Tests.{eq-says}
 use Rattle.words.specs.Below.{countBelow}

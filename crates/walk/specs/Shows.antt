@@ -15,7 +15,7 @@ use Rattle.meaning.specs.Limits.{AcceptedTable, Small}
 use Rattle.pairs.specs.Sets.{occupant, inside-words}
 use Rattle.moves.specs.Fit.{entry}
 use Rattle.graphs.specs.Sets.{Nodes, _⊆_}
-use Rattle.graphs.specs.Walk.{Edges, first-in, last-in, Walk}
+use Rattle.graphs.specs.Walk.{Edges, first-in, last-in, Walk, walk-in, walk-along}
 use Rattle.theory.specs.Node.{node, stateOf, valuesOf, inSet, settledAt, valid, valid-says, edge, goals, each-goal}
 use Rattle.graphs.specs.Core.{LiveNode, Keeps, live-stays}
 use Rattle.graphs.specs.Fair.{Fair}
@@ -37,9 +37,8 @@ use Rattle.model.specs.Witness.{Witness, hasLive, ring-witness}
 use Rattle.leads.specs.Halves.{fromIn, toIn}
 use Rattle.sweeps.specs.Rounds.{everyOf, settledIn, goalOf}
 use Rattle.nearest.specs.Graph.{movesOf, move-of, of-move}
-use Rattle.walk.specs.Over.{over}
+use Rattle.words.specs.Over.{over}
 use Rattle.walk.specs.Debts.{debtNodes, debtsTo, debt-in, in-debts}
-use Rattle.walk.specs.Along.{walk-in, walk-along}
 use Rattle.walk.specs.Legs.{Walked}
 
 -- the bytes of a witness stand at the front of the buffer: its stem, its loop from the byte after it; the rest is as before

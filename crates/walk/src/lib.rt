@@ -16,7 +16,7 @@ ghost use Rattle.model.specs.Sets.{nodesOf};
 ghost use Rattle.nearest.specs.Graph.{movesOf};
 ghost use Rattle.walk.specs.Debts.{debtsTo};
 ghost use Rattle.walk.specs.Legs.{Walked};
-ghost use Rattle.walk.specs.Over.{over};
+ghost use Rattle.words.specs.Over.{over};
 
 // The first n bytes of `part` become those of `bytes`.
 fn fill(part: &mut [u8], bytes: &[u8], n: usize)

@@ -4,7 +4,7 @@ use mathlib.Core.Path.{_≡_, refl, ap, _∙_}
 use mathlib.Core.List.{List}
 use Prim.Native.Nat.{ℕ, _-_, _≤_}
 use lib.ListN.{length, getD, set, take, length-take}
-use Rattle.walk.specs.Over.{over, over-length, over-copy}
+use Rattle.words.specs.Over.{over, over-length, over-copy}
 use borrow.Author.Needs.{needs}
 use Rattle.walk.proofs.fill.Statement.{statement}
 use Rattle.walk.proofs.fill.Tie as tie

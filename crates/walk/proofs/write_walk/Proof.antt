@@ -6,7 +6,7 @@ use native.Mathlib.Omega.{arith}
 use Rattle.nearest.specs.Graph.{nodes-below}
 use Rattle.walk.specs.Ways.{meet-nodes, nearest-slope}
 use Rattle.walk.specs.Written.{states}
-use Rattle.walk.specs.Over.{over-lent}
+use Rattle.words.specs.Over.{over-lent}
 use borrow.Author.Needs.{needs}
 use Rattle.walk.proofs.write_walk.Statement.{statement}
 use Rattle.walk.proofs.write_walk.Tie as tie
