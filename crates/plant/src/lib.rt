@@ -1,10 +1,10 @@
 // Plant tables: handed in as the counts by value with the parts lent, read from a text as one value; and the check of both.
-mod reader;
+mod table_text;
 
 use answers::Kind;
 use answers::Outcome;
 use answers::Refusal;
-pub use reader::read_table;
+pub use table_text::read_table;
 ghost use mathlib.Core.Path.{_≡_};
 ghost use Prim.Native.Nat.{_^_, _≤_};
 ghost use lib.Dec.{ltb};

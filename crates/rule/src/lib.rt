@@ -9,7 +9,7 @@ ghost use Rattle.rule.specs.Reading.{refusedAs, ruleRead};
 ghost use Rattle.rule.specs.Valid.{validOf};
 ghost use Rattle.rule.specs.Printing.{printAnswer, printBuffer};
 
-mod text;
+mod rule_text;
 mod value;
 
 // What reading a text answers. The rule beside a refusal is the value with no node.
@@ -57,7 +57,7 @@ pub fn read_rule(plant: Plant, fair: &[u64], label: &[u16], next: &[u64], text: 
             let kind = refusal.kind;
             RuleRead::refused(kind, refusal.place)
         }
-        Outcome::Accepted => text::read_text(text, plant.props),
+        Outcome::Accepted => rule_text::read_text(text, plant.props),
     }
 }
 

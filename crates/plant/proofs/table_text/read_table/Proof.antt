@@ -1,9 +1,9 @@
--- `plant::reader::read_table`. Each return is a case of `readAs`.
+-- `plant::table_text::read_table`. Each return is a case of `readAs`.
 use mathlib.Core.Path.{ap, sym, _∙_}
 use Rattle.plant.specs.Read.{refusedRead, read-unfit, read-fits}
 use borrow.Author.Needs.{needs}
-use Rattle.plant.proofs.reader.read_table.Statement.{statement}
-use Rattle.plant.proofs.reader.read_table.Tie as tie
+use Rattle.plant.proofs.table_text.read_table.Statement.{statement}
+use Rattle.plant.proofs.table_text.read_table.Tie as tie
 
 returns : tie.Need-returns
 returns c =

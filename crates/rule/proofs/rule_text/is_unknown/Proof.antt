@@ -1,11 +1,11 @@
--- `rule::text::is_unknown` meets its contract. Assumes nothing.
+-- `rule::rule_text::is_unknown` meets its contract. Assumes nothing.
 use mathlib.Core.Path.{ap, _∙_}
 use lib.Dec.{leb}
 use Rattle.syntax.specs.Bytes.{digitOf}
 use Rattle.rule.proofs.Checks.{unknown-end, unknown-other, unknown-digit}
 use borrow.Author.Needs.{needs}
-use Rattle.rule.proofs.text.is_unknown.Statement.{statement}
-use Rattle.rule.proofs.text.is_unknown.Tie as tie
+use Rattle.rule.proofs.rule_text.is_unknown.Statement.{statement}
+use Rattle.rule.proofs.rule_text.is_unknown.Tie as tie
 
 returns : tie.Need-returns
 returns c = let start = c .before .before in unknown-end (start .args .props) (start .args .text .now) (start .args .at) (start .pre) (c .if1 .taken)

@@ -1,10 +1,10 @@
--- `plant::reader::check_read`. The lent parts are as long as the counts say.
+-- `plant::table_text::check_read`. The lent parts are as long as the counts say.
 use mathlib.Core.Path.{_≡_}
 use native.Mathlib.Omega.{arith}
 use lib.ListN.{length, length-take}
 use borrow.Author.Needs.{needs}
-use Rattle.plant.proofs.reader.check_read.Statement.{statement}
-use Rattle.plant.proofs.reader.check_read.Tie as tie
+use Rattle.plant.proofs.table_text.check_read.Statement.{statement}
+use Rattle.plant.proofs.table_text.check_read.Tie as tie
 
 array-share-prefix-fair : tie.Need-array-share-prefix-fair
 array-share-prefix-fair c =

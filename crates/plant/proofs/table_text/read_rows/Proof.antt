@@ -1,4 +1,4 @@
--- `plant::reader::read_rows`. The loop has read the states below k.
+-- `plant::table_text::read_rows`. The loop has read the states below k.
 use borrow.Author.Needs.{needs}
 use Rattle.plant.specs.Lines.{rowAt, row-turn, rows-done}
 use Rattle.plant.specs.Text.{row}
@@ -11,8 +11,8 @@ use native.Mathlib.Nat.{le-antisymm}
 use native.Mathlib.Omega.{arith}
 use Prim.Native.Nat.{ℕ, _+_, _*_, _-_, _≤_, zero-le}
 use mathlib.Core.Path.{_≡_, refl, ap}
-use Rattle.plant.proofs.reader.read_rows.Statement.{statement}
-use Rattle.plant.proofs.reader.read_rows.Tie as tie
+use Rattle.plant.proofs.table_text.read_rows.Statement.{statement}
+use Rattle.plant.proofs.table_text.read_rows.Tie as tie
 
 abbrev Inv-loop : tie.InvT-loop
 Inv-loop text n label₀ next₀ d₀ k₀ t10 t11 label next d k = (k ≤ n) × (d ≡ after text d₀ (slotsBelow row k (rowAt (drop (d₀ .at) text)))) × (label ≡ filled 64 k (λ k. rowAt (drop (d₀ .at) text) k .0)) × (next ≡ filled 64 k (λ k. rowAt (drop (d₀ .at) text) k .1)) × (d .at ≤ d₀ .at + 56 * k)

@@ -1,4 +1,4 @@
--- `rule::text::unknown_at` meets its contract. The loop's invariant: the answer from here on is the answer. Assumes nothing.
+-- `rule::rule_text::unknown_at` meets its contract. The loop's invariant: the answer from here on is the answer. Assumes nothing.
 use Prim.Native.Nat.{_+_, _-_, _≤_}
 use mathlib.Core.Bool.{cond}
 use mathlib.Core.Path.{_≡_, refl, sym, ap, _∙_}
@@ -7,8 +7,8 @@ use lib.ListN.{length, drop}
 use Rattle.rule.specs.declared.Found.the-variants.{At}
 use Rattle.rule.specs.Reading.{unknownAt}
 use Rattle.rule.proofs.Checks.{unknown-turn, unknown-none}
-use Rattle.rule.proofs.text.unknown_at.Statement.{statement}
-use Rattle.rule.proofs.text.unknown_at.Tie as tie
+use Rattle.rule.proofs.rule_text.unknown_at.Statement.{statement}
+use Rattle.rule.proofs.rule_text.unknown_at.Tie as tie
 
 abbrev Inv-loop : tie.InvT-loop
 Inv-loop text props at₀ at = (at ≤ length text) × (unknownAt props at (drop at text) ≡ unknownAt props 0 text)

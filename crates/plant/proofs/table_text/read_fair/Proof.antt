@@ -1,4 +1,4 @@
--- `plant::reader::read_fair`. The loop has read the fairness sets below k.
+-- `plant::table_text::read_fair`. The loop has read the fairness sets below k.
 use borrow.Author.Needs.{needs}
 use Rattle.plant.specs.Lines.{fairAt, fair-turn, fair-done}
 use Rattle.plant.specs.Text.{field, fairName}
@@ -11,8 +11,8 @@ use native.Mathlib.Nat.{le-antisymm}
 use native.Mathlib.Omega.{arith}
 use Prim.Native.Nat.{_+_, _*_, _-_, _≤_, zero-le}
 use mathlib.Core.Path.{_≡_, refl}
-use Rattle.plant.proofs.reader.read_fair.Statement.{statement}
-use Rattle.plant.proofs.reader.read_fair.Tie as tie
+use Rattle.plant.proofs.table_text.read_fair.Statement.{statement}
+use Rattle.plant.proofs.table_text.read_fair.Tie as tie
 
 abbrev Inv-loop : tie.InvT-loop
 Inv-loop text n words₀ d₀ k₀ t8 words d k = (k ≤ n) × (d ≡ after text d₀ (slotsBelow (field fairName 16) k (fairAt (drop (d₀ .at) text)))) × (words ≡ filled 4 k (fairAt (drop (d₀ .at) text))) × (d .at ≤ d₀ .at + 28 * k)

@@ -1,11 +1,11 @@
--- `rule::text::read_text` meets its contract. Assumes nothing.
+-- `rule::rule_text::read_text` meets its contract. Assumes nothing.
 use mathlib.Core.Path.{_≡_, sym, _∙_}
 use Rattle.syntax.specs.declared.Scan.the-variants.{Good, Bad}
 use Rattle.syntax.specs.Scan.{scan}
 use Rattle.rule.proofs.Checks.{read-long, read-bad, read-good}
 use borrow.Author.Needs.{needs}
-use Rattle.rule.proofs.text.read_text.Statement.{statement}
-use Rattle.rule.proofs.text.read_text.Tie as tie
+use Rattle.rule.proofs.rule_text.read_text.Statement.{statement}
+use Rattle.rule.proofs.rule_text.read_text.Tie as tie
 
 returns : tie.Need-returns
 returns c =

@@ -1,9 +1,9 @@
--- `plant::reader::count_line`. A key, then a count.
+-- `plant::table_text::count_line`. A key, then a count.
 use native.Mathlib.Omega.{arith}
 use Rattle.plant.specs.Lines.{count-line}
 use borrow.Author.Needs.{needs}
-use Rattle.plant.proofs.reader.count_line.Statement.{statement}
-use Rattle.plant.proofs.reader.count_line.Tie as tie
+use Rattle.plant.proofs.table_text.count_line.Statement.{statement}
+use Rattle.plant.proofs.table_text.count_line.Tie as tie
 
 returns : tie.Need-returns
 returns c = count-line (c .before .expect-all .ensures) (omega arith) (c .count .ensures)

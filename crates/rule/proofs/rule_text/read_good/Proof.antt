@@ -1,11 +1,11 @@
--- `rule::text::read_good` meets its contract. Assumes nothing.
+-- `rule::rule_text::read_good` meets its contract. Assumes nothing.
 use mathlib.Core.Path.{_≡_, sym, ap, _∙_}
 use Rattle.rule.specs.declared.Found.the-variants.{At, Nowhere}
 use Rattle.rule.specs.Reading.{unknownAt, limited}
 use Rattle.rule.proofs.Checks.{named-unknown, named-fine}
 use borrow.Author.Needs.{needs}
-use Rattle.rule.proofs.text.read_good.Statement.{statement}
-use Rattle.rule.proofs.text.read_good.Tie as tie
+use Rattle.rule.proofs.rule_text.read_good.Statement.{statement}
+use Rattle.rule.proofs.rule_text.read_good.Tie as tie
 
 returns : tie.Need-returns
 returns c =

@@ -1,10 +1,10 @@
--- `rule::text::within_limits` meets its contract. Assumes nothing.
+-- `rule::rule_text::within_limits` meets its contract. Assumes nothing.
 use mathlib.Core.Path.{sym, _∙_}
 use native.Mathlib.Omega.{arith}
 use Rattle.rule.proofs.Checks.{limited-long, limited-many, limited-fine}
 use borrow.Author.Needs.{needs}
-use Rattle.rule.proofs.text.within_limits.Statement.{statement}
-use Rattle.rule.proofs.text.within_limits.Tie as tie
+use Rattle.rule.proofs.rule_text.within_limits.Statement.{statement}
+use Rattle.rule.proofs.rule_text.within_limits.Tie as tie
 
 returns : tie.Need-returns
 returns c = c .refused .ensures ∙ sym (limited-long _ (c .before .if1 .taken))
