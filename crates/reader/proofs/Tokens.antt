@@ -1,21 +1,23 @@
 -- The tokens from a place on, byte by byte.
 use Prim.Native.Nat.{ℕ, _+_, _≤_, _<_}
-use mathlib.Core.Path.{_≡_, refl, sym, ap, _∙_}
+use mathlib.Core.Path.{_≡_, refl, sym, ap, subst, _∙_}
 use mathlib.Core.List.{List, [], _∷_}
 use mathlib.Core.Bool.{true, false}
 use native.Mathlib.Omega.{arith}
 use lib.ListN.{length, getD, drop}
+use Rattle.syntax.specs.declared.Op.the-variants.{Prop}
 use Rattle.syntax.specs.declared.Token.{Token}
-use Rattle.syntax.specs.declared.Token.the-variants.{End}
+use Rattle.syntax.specs.declared.Token.the-variants.{Leaf, End}
 use Rattle.syntax.specs.declared.Sign.{Sign}
 use Rattle.syntax.specs.declared.Sign.the-variants.{Blank, Digit, Letter, Before, Between, Dash, Angle, Left, Right, Other}
-use Rattle.syntax.specs.Bytes.{signOf, gap, lexSign, lex, tokens}
+use Rattle.syntax.specs.Bytes.{signOf, digitOf, gap, lexSign, lex, tokens}
 use Rattle.syntax.specs.Reader.{number, opOf, head, tail}
 use Rattle.syntax.proofs.Places.{byte, at-end}
-use Rattle.reader.specs.Draft.{Skipped, Next}
+use Rattle.syntax.proofs.Lexing.{Byte, byte-of}
+use Rattle.reader.specs.Draft.{tokenOf, markOf, Skipped, Lettered, Next}
 use Rattle.reader.specs.declared.Mark.{Mark}
 
-pub none-left : (s : List ℕ) (at : ℕ) → at ≤ length s → length s ≤ at → tokens s at ≡ []
+none-left : (s : List ℕ) (at : ℕ) → at ≤ length s → length s ≤ at → tokens s at ≡ []
 unfolding lex
 none-left s at h g = ap (lex false) (at-end s at h g)
 
@@ -38,12 +40,50 @@ pass Dash e ts us = cc
 pass Left e ts us = cc
 pass Right e ts us = cc
 
+-- a byte that begins a token and is no `p` is one by itself
+alone : (k : Sign) → gap k ≡ false → (k ≡ Letter → ⊥) → (ts us : List Token) → lexSign k ts us ≡ tokenOf k ∷ ts
+unfolding lexSign
+alone (Digit k) e n ts us = refl
+alone (Before o) e n ts us = refl
+alone (Between o) e n ts us = refl
+alone Dash e n ts us = refl
+alone Left e n ts us = refl
+alone Right e n ts us = refl
+alone Letter e n ts us = absurd (n refl)
+alone Blank e n ts us = cc
+alone Angle e n ts us = cc
+alone Other e n ts us = cc
+
 pub passed : (s : List ℕ) (at : ℕ) → at < length s → gap (signOf (getD s at 0)) ≡ true → tokens s at ≡ tokens s (at + 1)
 passed s at h g = split s at h refl ∙ pass (signOf (getD s at 0)) g _ _
 
+-- the mark of a proposition whose digit is of the sign k
+pub digit-there : (s : List ℕ) (at : ℕ) → at < length s → {k : Sign} → k ≡ signOf (getD s at 0) → {n : ℕ} → n ≡ digitOf k → (m : Mark) → m ≡ markOf (Leaf (Prop n)) (at + 1) → Lettered s at m
+unfolding lex
+digit-there s at h e f m g =
+    rw g
+    record {
+      number-is = refl;
+      split = ap (lex true) (byte s at h) ∙ ap (λ n. Leaf (Prop n) ∷ tokens s (at + 1)) (sym (f ∙ ap digitOf e));
+      onward = omega arith;
+      within = omega arith;
+    }
+
+-- and of one whose digit is missing
+pub digit-missing : (s : List ℕ) (at : ℕ) → at ≤ length s → length s ≤ at → (m : Mark) → m ≡ markOf (Leaf (Prop 0)) at → Lettered s at m
+unfolding lex
+digit-missing s at h le m g =
+    rw g
+    record {
+      number-is = refl;
+      split = ap (lex true) (at-end s at h le) ∙ ap (λ ts. Leaf (Prop 0) ∷ ts) (sym (none-left s at h le));
+      onward = omega arith;
+      within = h;
+    }
+
 module _ (s : List ℕ) (from at : ℕ) (sk : Skipped s from at) where
   -- the mark of the token t, with which the tokens begin
-  pub marked : (t : Token) (next : ℕ) → tokens s at ≡ t ∷ tokens s next → at < next → next ≤ length s
+  marked : (t : Token) (next : ℕ) → tokens s at ≡ t ∷ tokens s next → at < next → next ≤ length s
       → (m : Mark) → m .number ≡ number t → m .op ≡ opOf t → m .next ≡ next → Next s from m
   unfolding head tail
   marked t next e lt le m n o x =
@@ -58,21 +98,29 @@ module _ (s : List ℕ) (from at : ℕ) (sk : Skipped s from at) where
       }
 
   -- the mark of the end
-  pub ended : length s ≤ at → (m : Mark) → m .number ≡ 8 → m .op ≡ opOf End → m .next ≡ at → Next s from m
+  pub ended : length s ≤ at → (m : Mark) → m ≡ markOf End at → Next s from m
   unfolding head tail
-  ended le m n o x =
+  ended le m g =
       let f : tokens s from ≡ [] = sym (sk .same) ∙ none-left s at (sk .within) le in
+      rw g
       record {
-        number-is = n ∙ ap (λ ts. number (head ts)) (sym f);
-        op-is = o ∙ ap (λ ts. opOf (head ts)) (sym f);
-        rest-is = ap (tokens s) x ∙ none-left s at (sk .within) le ∙ ap tail (sym f);
-        onward = omega (arith, sk .onward);
+        number-is = ap (λ ts. number (head ts)) (sym f);
+        op-is = ap (λ ts. opOf (head ts)) (sym f);
+        rest-is = none-left s at (sk .within) le ∙ ap tail (sym f);
+        onward = sk .onward;
         moves = λ h. absurd (omega arith);
-        within = omega (arith, sk .within);
+        within = sk .within;
       }
 
-  -- no byte stands there that begins no token
-  pub no-gap : at < length s → {k : Sign} → signOf (getD s at 0) ≡ k → gap k ≡ true → ⊥
-  no-gap lt {k} e g =
-      let f : true ≡ false = sym g ∙ ap gap (sym e) ∙ sk .stops lt in
-      let z : _≡_ {A = ℕ} 0 1 = cc in omega arith
+  -- the mark of a proposition
+  pub lettered : at < length s → getD s at 0 ≡ 112 → (m : Mark) → Lettered s (at + 1) m → Next s from m
+  unfolding lexSign signOf
+  lettered lt e m l = marked (Leaf (m .op)) (m .next) (split s at lt (ap signOf e) ∙ l .split) (omega (arith, l .onward)) (l .within) m (l .number-is) refl refl
+
+  -- the mark of a token that is one byte
+  pub single : at < length s → (getD s at 0 ≡ 112 → ⊥) → {k : Sign} → k ≡ signOf (getD s at 0) → {t : Token} → t ≡ tokenOf k → (m : Mark) → m ≡ markOf t (at + 1) → Next s from m
+  single lt n {k} e {t} f m g =
+      let no-letter : signOf (getD s at 0) ≡ Letter → ⊥ = λ l. n (subst (λ k. Byte k (getD s at 0)) l (byte-of (getD s at 0))) in
+      let first : tokens s at ≡ t ∷ tokens s (at + 1) =
+      split s at lt refl ∙ alone (signOf (getD s at 0)) (sk .stops lt) no-letter _ _ ∙ ap (λ u. u ∷ tokens s (at + 1)) (sym (f ∙ ap tokenOf e)) in
+      marked t (at + 1) first (omega arith) (omega arith) m (ap (λ x. x .number) g) (ap (λ x. x .op) g) (ap (λ x. x .next) g)

@@ -6,10 +6,13 @@ use mathlib.Core.Bool.{Bool, true, false}
 use lib.Dec.{ltb}
 use lib.ListN.{set, getD, length, drop}
 use Rattle.syntax.specs.declared.Op.{Op}
+use Rattle.syntax.specs.declared.Op.the-variants.{Implies}
 use Rattle.syntax.specs.declared.Rule.{Rule}
 use Rattle.syntax.specs.declared.Token.{Token}
-use Rattle.syntax.specs.declared.Token.the-variants.{Leaf}
-use Rattle.syntax.specs.Bytes.{signOf, gap, lex, tokens}
+use Rattle.syntax.specs.declared.Token.the-variants.{Leaf, Prefix, Infix, Open, Close, End}
+use Rattle.syntax.specs.declared.Sign.{Sign}
+use Rattle.syntax.specs.declared.Sign.the-variants.{Blank, Digit, Letter, Before, Between, Dash, Angle, Left, Right, Other}
+use Rattle.syntax.specs.Bytes.{signOf, gap, leafOf, lex, tokens}
 use Rattle.syntax.specs.Reader.{Got, number, opOf, head, tail}
 use Rattle.reader.specs.declared.Mark.{Mark}
 use Rattle.reader.specs.declared.Draft.{Draft}
@@ -33,6 +36,23 @@ pub record Skipped (s : List ℕ) (from r : ℕ) : Type 0 where
   pub within : r ≤ length s
   pub same : tokens s r ≡ tokens s from
   pub stops : r < length s → gap (signOf (getD s r 0)) ≡ false
+
+-- the token that a byte of the sign is by itself: there is none where the sign is a gap or the letter of a proposition
+abbrev pub tokenOf : Sign → Token
+tokenOf (Digit k) = Leaf (leafOf k)
+tokenOf (Before o) = Prefix o
+tokenOf (Between o) = Infix o
+tokenOf Dash = Infix Implies
+tokenOf Left = Open
+tokenOf Right = Close
+tokenOf Letter = End
+tokenOf Blank = End
+tokenOf Angle = End
+tokenOf Other = End
+
+-- the mark of a token that ends before `next`
+abbrev pub markOf : Token → ℕ → Mark
+markOf t next = record { number = number t; op = opOf t; next = next }
 
 -- m is a proposition whose digit stands at `at`
 pub record Lettered (s : List ℕ) (at : ℕ) (m : Mark) : Type 0 where

@@ -3,14 +3,15 @@ use syntax::Node;
 use syntax::Op;
 use syntax::Rule;
 use syntax::Sign;
+use syntax::Token;
 ghost use mathlib.Core.Path.{_≡_};
 ghost use Prim.Native.Nat.{_+_, _≤_, _<_};
 ghost use lib.ListN.{length};
 ghost use Rattle.syntax.specs.Bytes.{leafOf, gap};
-ghost use Rattle.syntax.specs.Reader.{place, read, more, parse};
+ghost use Rattle.syntax.specs.Reader.{place, number, opOf, read, more, parse};
 ghost use Rattle.syntax.specs.Grammar.{arrows, ors, ands, untils, prefixes, leaves};
 ghost use Rattle.syntax.specs.Value.{emptyRule};
-ghost use Rattle.reader.specs.Draft.{pushed, written, closedBy, pastMark, Skipped, Lettered, Next, Did};
+ghost use Rattle.reader.specs.Draft.{pushed, written, tokenOf, markOf, closedBy, pastMark, Skipped, Lettered, Next, Did};
 
 // The leaf of a digit that stands alone.
 fn leaf_of(k: u8) -> Op
@@ -119,6 +120,63 @@ impl Mark {
     pub const NONE: usize = 9;
 }
 
+// The token that a byte of the sign is by itself.
+fn token_of(sign: Sign) -> Token
+    ensures { λ r. ⌜ r ≡ tokenOf sign ⌝ }
+{
+    match sign {
+        Sign::Digit(k) => Token::Leaf(leaf_of(k)),
+        Sign::Before(op) => Token::Prefix(op),
+        Sign::Between(op) => Token::Infix(op),
+        Sign::Dash => Token::Infix(Op::Implies),
+        Sign::Left => Token::Open,
+        Sign::Right => Token::Close,
+        Sign::Letter => Token::End,
+        Sign::Blank => Token::End,
+        Sign::Angle => Token::End,
+        Sign::Other => Token::End,
+    }
+}
+
+// The number of a token.
+fn number_of(token: Token) -> usize
+    ensures { λ r. ⌜ r ≡ number token ⌝ }
+{
+    match token {
+        Token::Infix(op) => place_of(op),
+        Token::Prefix(_) => Mark::PREFIX,
+        Token::Leaf(_) => Mark::LEAF,
+        Token::Open => Mark::OPEN,
+        Token::Close => Mark::CLOSE,
+        Token::End => Mark::END,
+    }
+}
+
+// The operator of a token.
+fn op_of(token: Token) -> Op
+    ensures { λ r. ⌜ r ≡ opOf token ⌝ }
+{
+    match token {
+        Token::Infix(op) => op,
+        Token::Prefix(op) => op,
+        Token::Leaf(op) => op,
+        Token::Open => Op::False,
+        Token::Close => Op::False,
+        Token::End => Op::False,
+    }
+}
+
+// The mark of a token that ends before `next`.
+fn mark_of(token: Token, next: usize) -> Mark
+    ensures { λ r. ⌜ r ≡ markOf token next ⌝ }
+{
+    Mark {
+        number: number_of(token),
+        op: op_of(token),
+        next,
+    }
+}
+
 // The proposition whose digit stands at `at`.
 fn letter_at(text: &[u8], at: usize) -> Mark
     requires { ⌜ at ≤ length (now text) ⌝ }
@@ -126,17 +184,9 @@ fn letter_at(text: &[u8], at: usize) -> Mark
 {
     if at < text.len() {
         let k = syntax::digit_of(syntax::sign_of(text[at]));
-        Mark {
-            number: Mark::LEAF,
-            op: Op::Prop(k),
-            next: at + 1,
-        }
+        mark_of(Token::Leaf(Op::Prop(k)), at + 1)
     } else {
-        Mark {
-            number: Mark::LEAF,
-            op: Op::Prop(0),
-            next: at,
-        }
+        mark_of(Token::Leaf(Op::Prop(0)), at)
     }
 }
 
@@ -147,62 +197,13 @@ fn token_at(text: &[u8], from: usize) -> Mark
 {
     let at = skip(text, from);
     if text.len() <= at {
-        return Mark {
-            number: Mark::END,
-            op: Op::False,
-            next: at,
-        };
+        return mark_of(Token::End, at);
     }
     let next = at + 1;
-    let sign = syntax::sign_of(text[at]);
-    match sign {
-        Sign::Digit(k) => Mark {
-            number: Mark::LEAF,
-            op: leaf_of(k),
-            next,
-        },
-        Sign::Letter => letter_at(text, next),
-        Sign::Before(op) => Mark {
-            number: Mark::PREFIX,
-            op,
-            next,
-        },
-        Sign::Between(op) => Mark {
-            number: place_of(op),
-            op,
-            next,
-        },
-        Sign::Dash => Mark {
-            number: Mark::ARROW,
-            op: Op::Implies,
-            next,
-        },
-        Sign::Left => Mark {
-            number: Mark::OPEN,
-            op: Op::False,
-            next,
-        },
-        Sign::Right => Mark {
-            number: Mark::CLOSE,
-            op: Op::False,
-            next,
-        },
-        Sign::Blank => Mark {
-            number: Mark::END,
-            op: Op::False,
-            next: at,
-        },
-        Sign::Angle => Mark {
-            number: Mark::END,
-            op: Op::False,
-            next: at,
-        },
-        Sign::Other => Mark {
-            number: Mark::END,
-            op: Op::False,
-            next: at,
-        },
+    if text[at] == b'p' {
+        return letter_at(text, next);
     }
+    mark_of(token_of(syntax::sign_of(text[at])), next)
 }
 
 // How far the text is read, and the rule so far.

@@ -7,7 +7,7 @@ use native.Mathlib.Omega.{arith}
 use native.Mathlib.Numerals.{sub-one}
 use lib.Dec.{eqb, eqb·suc-zero}
 use lib.ListN.{length, getD, drop}
-use Rattle.syntax.specs.declared.Mode.the-variants.{Operator}
+use Rattle.syntax.specs.declared.Mode.the-variants.{Operator, Stuck}
 use Rattle.syntax.specs.declared.Move.{Move}
 use Rattle.syntax.specs.declared.Move.the-variants.{ToOperand, ToNumber, ToOperator, ToArrow, Opens, Closes, Stops}
 use Rattle.syntax.specs.declared.State.{State}
@@ -25,6 +25,10 @@ pub lone-large : (k : ℕ) → 2 ≤ k → Stops ≡ lone k
 lone-large zero h = absurd (omega arith)
 lone-large (suc zero) h = absurd (omega arith)
 lone-large (suc (suc k)) h = refl
+
+pub closes-none : (d : ℕ) → d ≡ 0 → at Stuck d ≡ closes d
+unfolding closes
+closes-none d e = rw e refl
 
 pub closes-one : (d : ℕ) → (d ≡ 0 → ⊥) → at Operator (d - 1) ≡ closes d
 unfolding closes

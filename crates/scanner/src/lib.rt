@@ -6,7 +6,7 @@ use syntax::Sign;
 use syntax::State;
 ghost use mathlib.Core.Path.{_≡_};
 ghost use Prim.Native.Nat.{_<_};
-ghost use Rattle.syntax.specs.Scan.{lone, operand, digit, operator, angle, move, moved, ends, dead, scan};
+ghost use Rattle.syntax.specs.Scan.{lone, operand, digit, operator, angle, move, closes, moved, ends, dead, scan};
 
 // A digit that stands alone is 0 or 1.
 fn lone_digit(k: u8) -> Move
@@ -100,6 +100,23 @@ fn move_of(mode: Mode, sign: Sign) -> Move
     }
 }
 
+// The state after a `)`, where `depth` parentheses are open.
+fn after_close(depth: usize) -> State
+    ensures { λ r. ⌜ r ≡ closes depth ⌝ }
+{
+    if depth == 0 {
+        State {
+            mode: Mode::Stuck,
+            depth,
+        }
+    } else {
+        State {
+            mode: Mode::Operator,
+            depth: depth - 1,
+        }
+    }
+}
+
 // The state after a move, where `depth` parentheses are open.
 fn state_after(depth: usize, by: Move) -> State
     requires { ⌜ depth < 9223372036854775808 ⌝ }
@@ -126,19 +143,7 @@ fn state_after(depth: usize, by: Move) -> State
             mode: Mode::Operand,
             depth: depth + 1,
         },
-        Move::Closes => {
-            if depth == 0 {
-                State {
-                    mode: Mode::Stuck,
-                    depth: 0,
-                }
-            } else {
-                State {
-                    mode: Mode::Operator,
-                    depth: depth - 1,
-                }
-            }
-        }
+        Move::Closes => after_close(depth),
         Move::Stops => State {
             mode: Mode::Stuck,
             depth,
