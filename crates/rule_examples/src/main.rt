@@ -1,6 +1,8 @@
-// 01's examples of rule texts and values, and bad ones: a line for each, with what was asked and what came. The file `stdout` has the answers worked out by hand from 01.
+// 01's examples of rule texts and values, and bad ones: a line for each, with what was asked and what came. The texts of standard input come first: how operators bind and
+// group; what is not of the grammar; propositions that the table has not, and sizes, 5 before 6, 6 before 7, 7 before 8. The file `stdout` has the answers worked out by hand from 01.
 use answers::Outcome;
 use answers::Refusal;
+use libc::STDIN_FILENO;
 use libc::STDOUT_FILENO;
 use plant::Plant;
 use rule::Printed;
@@ -72,61 +74,25 @@ fn named(name: &[u8], text: &[u8]) {
     read(plant_w(2, 1), name, text);
 }
 
-// How each operator binds and groups.
-fn grouping() {
-    on_w(b"p0Up1Up0");
-    on_w(b"!p0Up1");
-    on_w(b"p0&p1&p0");
-    on_w(b"p0Rp1Up0");
-    on_w(b"p0|p1|p0");
-    on_w(b"p0->p1->p0");
-    on_w(b"p0->p1|p0&p1U!p0");
-    on_w(b"(p0->p1)|p0");
-    on_w(b" G ( p0 -> F p1 ) ");
-    on_w(b"((1))");
+// Each line of the input is a text.
+fn each(input: &[u8]) {
+    let mut at = 0;
+    while at < input.len() {
+        let end = bytes::scan::find(input, at, input.len(), b'\n');
+        on_w(&input[at..end]);
+        at = if end < input.len() { end + 1 } else { end };
+    }
 }
 
-// Texts that are not of the grammar.
-fn refused_by_5() {
-    on_w(b"");
-    on_w(b"p0 p1");
-    on_w(b"p8");
-    on_w(b"p0-");
-    on_w(b"((p0)");
-    on_w(b"   ");
-    on_w(b"p0- >");
-    on_w(b"p 0");
-}
-
-// Operands and operators that are not to come, and bytes of no token.
-fn more_refused_by_5() {
-    on_w(b"2");
-    on_w(b"()");
-    on_w(b"p0)");
-    on_w(b"p0>p1");
-    on_w(b"p0U");
-    on_w(b"Up0");
+// Bytes of no token.
+fn strange_bytes() {
     named(b"p0 TAB p1", b"p0\tp1");
     named(b"p0 LF", b"p0\n");
+    named(b"p0 CR", b"p0\r");
+    named(b"byte 0", b"\x00");
     named(b"byte 128", b"\x80");
     named(b"p0& byte 255", b"p0&\xff");
     named(b"p byte 176", b"p\xb0");
-}
-
-// Propositions that the table has not, and sizes: 5 before 6, 6 before 7, 7 before 8.
-fn limits() {
-    on_w(b"p0&p3");
-    on_w(b" p2 ");
-    on_w(b"p2 p");
-    on_w(b"!!!!!!!!!!!!!!!!!!!!!!!!!!!!!!!p0");
-    on_w(b"!!!!!!!!!!!!!!!!!!!!!!!!!!!!!!!!p0");
-    on_w(b"!!!!!!!!!!!!!!!!!!!!!!!!!!!!!!!!p2");
-    on_w(b"XXXXXXp0");
-    on_w(b"XXXXXXXp0");
-    on_w(b"FGXp0Up1Rp0");
-    on_w(b"FGXp0Up1Rp0Up1Rp0");
-    on_w(b"XXXXXXX!!!!!!!!!!!!!!!!!!!!!!!!!p0");
-    on_w(b"!p0->p0->p0->p0->p0->p0->p0->p0->p0->p0->p0->p0->p0->p0->p0->p0");
 }
 
 // 255 parentheses around `p0`.
@@ -238,33 +204,31 @@ fn with_and(rule: Rule) -> Rule {
     longer
 }
 
-// Prints into a buffer of dots that lacks nothing, one byte, or has some to spare; and shows all of it.
+// Prints into a buffer, and shows all of it.
+fn into(name: &[u8], rule: Rule, buffer: &mut [u8]) {
+    ask(name);
+    print(rule, buffer);
+    show(buffer, buffer.len());
+}
+
+// Buffers of dots that lack nothing, one byte, or have some to spare.
 fn buffers() {
     let rule = with_and(value(3, Op::True, 1, Op::False));
     let mut exact = [b'.'; 5];
-    ask(b"(1&0) into 5 bytes");
-    print(rule, &mut exact);
+    into(b"(1&0) into 5 bytes", rule, &mut exact);
     let mut small = [b'.'; 4];
-    ask(b"(1&0) into 4 bytes");
-    print(rule, &mut small);
-    ask(b"these 4 bytes");
-    show(&small, 4);
+    into(b"(1&0) into 4 bytes", rule, &mut small);
     let mut large = [b'.'; 8];
-    ask(b"(1&0) into 8 bytes");
-    print(rule, &mut large);
-    ask(b"these 8 bytes");
-    show(&large, 8);
-    ask(b"no rule into them");
-    print(Rule::empty(), &mut large);
-    ask(b"these 8 bytes");
-    show(&large, 8);
+    into(b"(1&0) into 8 bytes", rule, &mut large);
+    into(b"no rule into the same", Rule::empty(), &mut large);
+    into(b"no rule into 4 bytes", Rule::empty(), &mut small);
 }
 
 fn main() {
-    grouping();
-    refused_by_5();
-    more_refused_by_5();
-    limits();
+    let mut input = io::buffer();
+    let n = io::read_full(STDIN_FILENO, &mut input);
+    each(&input[..n]);
+    strange_bytes();
     lengths();
     tables();
     values();

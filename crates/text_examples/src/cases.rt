@@ -87,26 +87,11 @@ fn case(kind: u8, text: &[u8]) {
     }
 }
 
-// The first `#` from a place on, or the end.
-fn mark(input: &[u8], from: usize) -> usize
-    requires { ⌜ from ≤ length (now input) ⌝ }
-    ensures { λ r. ⌜ (from ≤ r) × (r ≤ length (now (input .entry))) ⌝ }
-{
-    let mut at = from;
-    while at < input.len() {
-        if input[at] == b'#' {
-            return at;
-        }
-        at += 1;
-    }
-    at
-}
-
 pub fn each(input: &[u8]) {
     let mut at = 0;
     while at < input.len() {
         let start = at + 1;
-        let end = mark(input, start);
+        let end = bytes::scan::find(input, start, input.len(), b'#');
         case(input[at], &input[start..end]);
         at = if end < input.len() { end + 1 } else { end };
     }
