@@ -1,7 +1,7 @@
 // Texts read slot by slot. A cursor goes on over the slots of the value that is read, whether they fit or not, and remembers how far they did.
 ghost use mathlib.Core.Path.{_≡_};
 ghost use mathlib.Core.List.{[], _∷_};
-ghost use Prim.Native.Nat.{_+_, _-_, _*_, _≤_, _<_};
+ghost use Prim.Native.Nat.{_+_, _≤_, _<_};
 ghost use lib.ListN.{length, getD};
 ghost use Rattle.text.specs.Slot.{exactly, digit, digitValue, word};
 ghost use Rattle.text.specs.Number.{countSlots, countOf};

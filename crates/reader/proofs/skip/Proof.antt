@@ -1,12 +1,12 @@
 -- `reader::skip` meets its contract. The loop's invariant: from here on stand the tokens that stood from `from` on.
 -- The measure is what is left of the text. Assumes nothing.
 use Prim.Native.Nat.{_≤_, _-_}
-use mathlib.Core.Path.{_≡_, refl, sym, _∙_}
+use mathlib.Core.Path.{_≡_, refl, sym, ap, _∙_}
 use native.Mathlib.Omega.{arith}
 use borrow.Author.Needs.{needs}
 use borrow.Author.Tests.{not-true, not-false}
 use lib.ListN.{length}
-use Rattle.syntax.specs.Bytes.{tokens}
+use Rattle.syntax.specs.Bytes.{gap, tokens}
 use Rattle.reader.proofs.Tokens.{passed}
 use Rattle.reader.proofs.skip.Statement.{statement}
 use Rattle.reader.proofs.skip.Tie as tie
@@ -33,7 +33,7 @@ returns : tie.Need-returns Inv-loop μ-loop
 returns c =
     let k = c .before .before in
     let inv = k .before .before .before .loop .inv in
-    record { onward = inv .0; within = inv .1; same = inv .2; stops = λ _. cc (not-true (c .before .is-gap .result) (c .if1 .taken)) }
+    record { onward = inv .0; within = inv .1; same = inv .2; stops = λ _. sym (c .before .is-gap .ensures ∙ ap gap (k .sign-of .ensures)) ∙ not-true _ (c .if1 .taken) }
 
 add-at : tie.Need-add-at Inv-loop μ-loop
 add-at c = omega arith
@@ -45,7 +45,7 @@ loop-again : tie.Need-loop-again Inv-loop μ-loop
 loop-again c =
     let k = c .before .before in
     let inv = k .before .before .before .loop .inv in
-    (omega arith, omega arith, sym (passed _ _ (k .before .before .loop-test .taken) (cc (not-false (c .before .is-gap .result) (c .if1 .left)))) ∙ inv .2)
+    (omega arith, omega arith, sym (passed _ _ (k .before .before .loop-test .taken) (sym (c .before .is-gap .ensures ∙ ap gap (k .sign-of .ensures)) ∙ not-false _ (c .if1 .left))) ∙ inv .2)
 
 returns-2 : tie.Need-returns-2 Inv-loop μ-loop
 returns-2 c =

@@ -1,7 +1,6 @@
 -- `rule::rule_text::read_good` meets its contract. Assumes nothing.
-use mathlib.Core.Path.{_≡_, sym, ap, _∙_}
-use Rattle.rule.specs.declared.Found.the-variants.{At, Nowhere}
-use Rattle.rule.specs.Reading.{unknownAt, limited}
+use mathlib.Core.Path.{sym, ap, _∙_}
+use Rattle.rule.specs.Reading.{limited}
 use Rattle.rule.proofs.Checks.{named-unknown, named-fine}
 use borrow.Author.Needs.{needs}
 use Rattle.rule.proofs.rule_text.read_good.Statement.{statement}
@@ -10,15 +9,14 @@ use Rattle.rule.proofs.rule_text.read_good.Tie as tie
 returns : tie.Need-returns
 returns c =
     let start = c .before .before .before .before .before .before in
-    let k = c .before .before .found .given .0 .0 in
-    let e : unknownAt (start .args .props) 0 (start .args .text .now) ≡ At k = cc in
-    c .refused .ensures ∙ sym (named-unknown (start .args .text .now) (start .args .props) k e)
+    let k = c .before .before in
+    c .refused .ensures ∙ sym (named-unknown (start .args .text .now) (start .args .props) _ (sym (k .before .before .unknown-at .ensures) ∙ k .found .given .1))
 
 returns-2 : tie.Need-returns-2
 returns-2 c =
     let start = c .before .before .before .before .before .before in
-    let e : unknownAt (start .args .props) 0 (start .args .text .now) ≡ Nowhere = cc in
-    c .within-limits .ensures ∙ ap limited (c .before .parse-rule .ensures) ∙ sym (named-fine (start .args .text .now) (start .args .props) e)
+    let k = c .before .before in
+    c .within-limits .ensures ∙ ap limited (c .before .parse-rule .ensures) ∙ sym (named-fine (start .args .text .now) (start .args .props) (sym (k .before .before .unknown-at .ensures) ∙ k .enum-told .given .1))
 
 pub read-good-spec : {M : Type 1} → statement M
 read-good-spec =
