@@ -29,6 +29,7 @@ valKey = 32 ∷ 118 ∷ 97 ∷ 108 ∷ 61 ∷ []
 abbrev pub newKey : List ℕ
 newKey = 32 ∷ 110 ∷ 101 ∷ 119 ∷ 61 ∷ []
 
+-- a key, and a number of w digits
 abbrev pub hexKey : List ℕ → ℕ → Form ℕ
 hexKey key w = led (word key) (hex w)
 
@@ -36,9 +37,11 @@ hexKey key w = led (word key) (hex w)
 abbrev Fields : Type 0
 Fields = ℕ × (ℕ × ℕ)
 
+-- the three fields of a line, one behind the other
 abbrev fields : ℕ → Form Fields
 fields w = both (hexKey seeKey w) (λ see. both (hexKey valKey w) (λ val. led (word newKey) (counted 10 0 1)))
 
+-- the event of these fields, and its fields
 abbrev eventIn : Fields → Event
 eventIn p = record { see = p .0; val = p .1 .0; new = eqb (p .1 .1) 1 }
 
@@ -78,6 +81,7 @@ line-reads w =
     low true = omega arith
     low false = omega arith
 
+-- the event that a text's first line gives if it is of the form, and how far it is
 pub record IsLine (s : List ℕ) (e : Event) (good : ℕ) : Type 0 where
   pub is : e ≡ line 2 .guess s
   pub goes : good ≡ fitOf (line 2) s

@@ -67,6 +67,7 @@ lineAt s k = guessAt lines twenty s k
 abbrev pub begun : List ℕ → ℕ
 begun s = (length s + 19) / 20
 
+-- the form of a log: a line for each event
 unfoldable pub logForm : Form (List Event)
 logForm =
     record {

@@ -26,6 +26,7 @@ use Rattle.answers.specs.Paper.{refusedAt}
 abbrev pub refusedWith : Refusal → LogRead
 refusedWith r = record { outcome = Refused r; lines = 0 }
 
+-- 12 at a place
 abbrev pub refusedLog : ℕ → LogRead
 refusedLog place = refusedWith (refusedAt LogText place)
 
@@ -33,6 +34,7 @@ refusedLog place = refusedWith (refusedAt LogText place)
 abbrev pub logGood : List ℕ → ℕ
 logGood s = matched s (slotsBelow lines (begun s) (lineAt s))
 
+-- 12 where the text stops to fit, and else how many lines there are
 unfoldable pub logRead : List ℕ → LogRead
 logRead s = cond (ltb (logGood s) (begun s * 20)) (refusedLog (logGood s)) (record { outcome = Accepted; lines = begun s })
 

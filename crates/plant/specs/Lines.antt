@@ -33,24 +33,29 @@ filled-padded m n f =
 abbrev pub fairAt : List ℕ → ℕ → ℕ
 fairAt s k = guessAt (field fairName 16) (fieldLength fairName 16) s k
 
+-- the label and the next states that are guessed for state k
 abbrev pub rowAt : List ℕ → ℕ → ℕ × ℕ
 rowAt s k = guessAt row rowLength s k
 
+-- behind c the count line gives the value, in its range, and the cursor behind the line
 pub record IsCountLine (s : List ℕ) (c : Cursor) (key : List ℕ) (lo hi value : ℕ) (next : Cursor) : Type 0 where
   pub took : Took (countLine key lo hi) s c value next
   pub low : lo ≤ value
   pub high : value ≤ hi
   pub at : next .at ≤ c .at + 11
 
+-- the same of a line with a number in hexadecimal
 pub record IsHexLine (s : List ℕ) (c : Cursor) (key : List Slot) (width value : ℕ) (next : Cursor) : Type 0 where
   pub took : Took (hexLine key width) s c value next
   pub small : value < 16 ^ width
 
+-- the lines of n fairness sets, kept in an array of 4
 pub record IsFair (s : List ℕ) (c : Cursor) (n : ℕ) (words : List ℕ) (end : Cursor) : Type 0 where
   pub took : Took (fairs n) s c (fairs n .guess (drop (c .at) s)) end
   pub are : words ≡ padded 4 (fairs n .guess (drop (c .at) s))
   pub at : end .at ≤ c .at + 112
 
+-- the lines of n states, kept in arrays of 64
 pub record IsRows (s : List ℕ) (c : Cursor) (n : ℕ) (label next : List ℕ) (end : Cursor) : Type 0 where
   pub took : Took (rows n) s c (rows n .guess (drop (c .at) s)) end
   pub labels : label ≡ padded 64 (rows n .guess (drop (c .at) s) .0)

@@ -67,6 +67,7 @@ tableRead s =
 
 -- ---- the code's way: the table of the text, and the cursor behind it
 
+-- the table that the text gives if it is of the form, and how far it is
 pub record IsParsed (s : List ℕ) (t : Table) (end : Cursor) : Type 0 where
   pub is : t ≡ tableOf (tableForm .guess s)
   pub goes : end ≡ cursor (length (tableForm .slots (tableForm .guess s))) (fitOf tableForm s)

@@ -38,9 +38,11 @@ bitsOf p fair label next = ltb (bitOr (bitOr (p .start) (united fair)) (united n
 
 -- ---- the answer: 1 before 2
 
+-- a refusal at place 0
 abbrev pub refusedAs : Kind → Outcome
 refusedAs k = Refused (refusedAt k 0)
 
+-- 1 for the counts and lengths, 2 for the bits, and else accepted
 abbrev pub tableOutcome : Plant → List ℕ → List ℕ → List ℕ → Outcome
 tableOutcome p fair label next = cond (countsOf p (length fair) (length label) (length next)) (cond (bitsOf p fair label next) Accepted (refusedAs Bits)) (refusedAs Counts)
 

@@ -16,6 +16,7 @@ use Rattle.words.specs.Lists.{length-list, list-at, list-of}
 
 -- ---- the lines
 
+-- the end of a line
 abbrev pub lf : List Slot
 lf = exactly 10 ∷ []
 
@@ -31,6 +32,7 @@ countLine key lo hi = led (word key) (counted 10 lo hi)
 abbrev pub hexLine : List Slot → ℕ → Form ℕ
 hexLine key w = led key (ended (hex w) lf)
 
+-- such a line whose key ends in a number
 abbrev pub field : List ℕ → ℕ → ℕ → Form ℕ
 field name w k = hexLine (keySlots name k) w
 
@@ -58,6 +60,7 @@ nextName = 110 ∷ 101 ∷ 120 ∷ 116 ∷ []
 
 -- ---- the parts
 
+-- the two lines of state k
 abbrev pub row : ℕ → Form (ℕ × ℕ)
 row k = both (field labelName 2 k) (λ l. field nextName 16 k)
 
@@ -82,9 +85,11 @@ field-reads name w k = reads-led (reads-ended (hex-reads w) lf) (keySlots name k
 pub row-reads : (k : ℕ) → Reads (row k)
 row-reads k = reads-both (field-reads labelName 2 k) (λ l ok. field-reads nextName 16 k)
 
+-- the lines of the fairness sets
 abbrev pub fairs : ℕ → Form (List ℕ)
 fairs n = listed (field fairName 16) (fieldLength fairName 16) n (λ l. length l ≡ n) (λ l k. getD l k 0) (listBelow n)
 
+-- the lines of the states, labels and next states each in a list
 abbrev pub rows : ℕ → Form (List ℕ × List ℕ)
 rows n =
     listed row rowLength n (λ p. (length (p .0) ≡ n) × (length (p .1) ≡ n)) (λ p k. (getD (p .0) k 0, getD (p .1) k 0))
@@ -106,9 +111,11 @@ rows-read n =
 
 -- ---- the whole
 
+-- props, states, start, just, the fairness sets, the labels and the next states
 abbrev pub Parts : Type 0
 Parts = ℕ × (ℕ × (ℕ × (ℕ × (List ℕ × (List ℕ × List ℕ)))))
 
+-- the lines of a table, in their order: how many follow is told by the counts before
 abbrev pub parts : Form Parts
 parts =
     both (countLine propsKey 1 8) (λ props. both (countLine statesKey 1 64) (λ states. both (hexLine (word startKey) 16) (λ start.
@@ -133,6 +140,7 @@ partsOf t = (t .props, (t .states, (t .start, (length (t .fair), (t .fair, (t .l
 pub parts-back : (p : Parts) → length (p .1 .1 .1 .1 .0) ≡ p .1 .1 .1 .0 → partsOf (tableIn p) ≡ p
 parts-back p e = ap (λ (n : ℕ). (p .0, (p .1 .0, (p .1 .1 .0, (n, p .1 .1 .1 .1))))) e
 
+-- the form of a table's text
 abbrev pub tableForm : Form Plant
 tableForm = seen parts (λ t. parts .Ok (partsOf t)) tableIn partsOf
 

@@ -65,6 +65,7 @@ first Implies = 45
 abbrev pub word : Op → List ℕ
 word o = cond (wide o) (first o ∷ last o ∷ []) (last o ∷ [])
 
+-- and how many bytes it has
 abbrev pub width : Op → ℕ
 width o = cond (wide o) 2 1
 
@@ -110,6 +111,7 @@ parens (suc (suc k)) = 2
 abbrev pub share : Op → ℕ
 share o = width o + parens (sides o)
 
+-- how many bytes several nodes bring
 unfoldable pub shares : List Op → ℕ
 shares [] = 0
 shares (o ∷ os) = share o + shares os

@@ -2,7 +2,7 @@
 use Prim.Native.Nat.{ℕ, _+_, _-_, _*_, _≤_, _<_}
 use mathlib.Core.Path.{_≡_}
 use mathlib.Core.List.{List, [], _∷_}
-use mathlib.Core.Bool.{Bool, true, false}
+use mathlib.Core.Bool.{true, false, cond}
 use lib.Dec.{ltb}
 use lib.ListN.{set, getD, length, drop}
 use Rattle.syntax.specs.declared.Op.{Op}
@@ -17,13 +17,9 @@ use Rattle.syntax.specs.Reader.{Got, number, opOf, head, tail}
 use Rattle.reader.specs.declared.Mark.{Mark}
 use Rattle.reader.specs.declared.Draft.{Draft}
 
-abbrev pub if : Bool → Rule → Rule → Rule
-if true a b = a
-if false a b = b
-
 -- with one node more; a full rule only tells that there were more, by the length 33
 abbrev pub pushed : Rule → Op → Rule
-pushed r o = if (ltb (r .len) 32) (record { len = r .len + 1; nodes = set (r .nodes) (r .len) (record { op = o }) }) (record { len = 33; nodes = r .nodes })
+pushed r o = cond (ltb (r .len) 32) (record { len = r .len + 1; nodes = set (r .nodes) (r .len) (record { op = o }) }) (record { len = 33; nodes = r .nodes })
 
 -- with several, one after the other
 unfoldable pub written : Rule → List Op → Rule
@@ -70,9 +66,11 @@ pub record Next (s : List ℕ) (from : ℕ) (m : Mark) : Type 0 where
   pub moves : m .number < 8 → from < m .next
   pub within : m .next ≤ length s
 
+-- the draft with the operator of a mark written
 abbrev pub closedBy : Draft → Mark → Draft
 closedBy d m = record { at = d .at; rule = pushed (d .rule) (m .op) }
 
+-- the draft with a mark passed
 abbrev pub pastMark : Draft → Mark → Draft
 pastMark d m = record { at = m .next; rule = d .rule }
 

@@ -27,6 +27,7 @@ topText (f ∷ fs) = print f
 abbrev pub textOf : Rule → List ℕ
 textOf r = topText (decode (held r) [])
 
+-- a refusal to print
 abbrev pub noPrint : Kind → Printed
 noPrint k = Refused (refusedAt k 0)
 
@@ -34,5 +35,6 @@ noPrint k = Refused (refusedAt k 0)
 abbrev pub printAnswer : Rule → List ℕ → Printed
 printAnswer r old = cond (validOf r names) (cond (ltb (length old) (length (textOf r))) (noPrint Room) (Text (record { bytes = length (textOf r) }))) (noPrint Value)
 
+-- the text over the buffer's start where it is printed, and else the buffer as it was
 abbrev pub printBuffer : Rule → List ℕ → List ℕ
 printBuffer r old = cond (validOf r names) (cond (ltb (length old) (length (textOf r))) old (over (textOf r) old)) old

@@ -23,9 +23,11 @@ use Rattle.rule.specs.declared.RuleRead.{RuleRead}
 use Rattle.rule.specs.declared.Found.{Found}
 use Rattle.rule.specs.declared.Found.the-variants.{At, Nowhere}
 
+-- a refusal, and beside it the value with no node
 abbrev pub refusedAs : Kind → ℕ → RuleRead
 refusedAs k place = record { outcome = Refused (refusedAt k place); rule = emptyRule }
 
+-- the rule that a text gives
 abbrev pub accepted : Rule → RuleRead
 accepted r = record { outcome = Accepted; rule = r }
 
@@ -48,6 +50,7 @@ abbrev pub ofFound : RuleRead → Found → RuleRead
 ofFound r (At k) = refusedAs Proposition k
 ofFound r Nowhere = r
 
+-- what a text of the grammar is answered, for q propositions
 abbrev pub named : List ℕ → ℕ → RuleRead
 named s q = ofFound (limited (written emptyRule (parse s))) (unknownAt q 0 s)
 

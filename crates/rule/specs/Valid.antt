@@ -12,6 +12,7 @@ use Rattle.syntax.specs.Postfix.{whole}
 use Rattle.syntax.specs.Print.{Below}
 use Rattle.syntax.specs.Value.{held, beyond, count, ruleOf}
 
+-- what stands beyond the nodes
 abbrev pub isFalse : Op → Bool
 isFalse False = true
 isFalse True = false

@@ -61,7 +61,7 @@ pub fn read_rule(plant: Plant, fair: &[u64], label: &[u16], next: &[u64], text: 
     }
 }
 
-// Whether some text gives the value, for so many propositions: check 9.
+// Whether the value is a rule's within the limits, with propositions below `props`. For 1 to 8 of them: whether some text gives it, which is check 9.
 pub fn is_valid(rule: Rule, props: usize) -> bool
     ensures { λ r. ⌜ r ≡ validOf rule props ⌝ }
 {

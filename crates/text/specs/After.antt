@@ -20,6 +20,7 @@ use Rattle.text.specs.declared.Cursor.{Cursor}
 unfoldable pub meets : List ℕ → ℕ → Slot → Bool
 meets s i t = cond (ltb i (length s)) (admits t (getD s i 0)) false
 
+-- a cursor at a place
 abbrev pub cursor : ℕ → ℕ → Cursor
 cursor at good = record { at = at; good = good }
 
@@ -27,6 +28,7 @@ cursor at good = record { at = at; good = good }
 unfoldable pub stepOf : Cursor → Bool → Cursor
 stepOf c fits = cursor (c .at + 1) (cond (ltb (c .good) (c .at)) (c .good) (cond fits (c .at + 1) (c .at)))
 
+-- several slots further
 unfoldable pub after : List ℕ → Cursor → List Slot → Cursor
 after s c [] = c
 after s c (t ∷ ts) = after s (stepOf c (meets s (c .at) t)) ts

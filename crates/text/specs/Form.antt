@@ -10,6 +10,7 @@ use lib.ListN.{length, drop}
 use Rattle.text.specs.Slot.{Slot, matched}
 use Rattle.text.specs.Matched.{matched-slots, matched-all, matched-less, matched-more, matched-both}
 
+-- which values there are, the slots of each, and the guess
 pub record Form (A : Type 0) : Type 1 where
   pub Ok : A → Type 0
   pub slots : A → List Slot

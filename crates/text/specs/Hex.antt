@@ -31,6 +31,7 @@ digit-of b v e h = rw (e, lt-ltb v 16 h)
 abbrev pub digitGuess : List ℕ → ℕ
 digitGuess s = digitOr0 (getD s 0 0)
 
+-- one digit
 unfoldable pub digitForm : Form ℕ
 digitForm = record { Ok = λ v. v < 16; slots = λ v. digit v ∷ []; guess = digitGuess }
 
@@ -51,6 +52,7 @@ unfolding hexSlots
 hex-length zero n = refl
 hex-length (suc w) n = omega (arith, length-append (hexSlots w (n / 16)) (digit (n % 16) ∷ []), hex-length w (n / 16))
 
+-- a number of w digits
 unfoldable pub hex : ℕ → Form ℕ
 hex w = record { Ok = λ n. n < 16 ^ w; slots = hexSlots w; guess = hexGuess w }
 

@@ -24,6 +24,7 @@ unfoldable pub offset : (ℕ → ℕ) → ℕ → ℕ
 offset len zero = 0
 offset len (suc n) = offset len n + len n
 
+-- and what is guessed there
 abbrev pub guessAt : {A : Type 0} → (ℕ → Form A) → (ℕ → ℕ) → List ℕ → ℕ → A
 guessAt F len s k = F k .guess (drop (offset len k) s)
 

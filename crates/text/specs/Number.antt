@@ -15,6 +15,7 @@ unfoldable pub hexSlots : ℕ → ℕ → List Slot
 hexSlots zero n = []
 hexSlots (suc w) n = hexSlots w (n / 16) ++ (digit (n % 16) ∷ [])
 
+-- the number of w digits that a text begins with
 unfoldable pub hexGuess : ℕ → List ℕ → ℕ
 hexGuess zero s = 0
 hexGuess (suc w) s = hexGuess w s * 16 + digitOr0 (getD s w 0)
@@ -29,6 +30,7 @@ nextOf end n = cond (ltb n 10) (exactly end) (digit (n % 10))
 unfoldable pub lastOf : ℕ → ℕ → List Slot
 lastOf end n = cond (ltb n 10) [] (exactly end ∷ [])
 
+-- the slots of such a number and its end
 unfoldable pub countSlots : ℕ → ℕ → List Slot
 countSlots end n = digit (leadOf n) ∷ nextOf end n ∷ lastOf end n
 
@@ -37,5 +39,6 @@ unfoldable pub countOf : ℕ → ℕ → ℕ → ℕ → ℕ
 countOf lo hi d e =
     cond ((ltb d lo || ltb 9 d) || ltb hi d) lo (cond ((ltb d 1 || ltb 9 e) || ltb hi (d * 10 + e)) d (d * 10 + e))
 
+-- the count that a text begins with
 abbrev pub countGuess : ℕ → ℕ → List ℕ → ℕ
 countGuess lo hi s = countOf lo hi (digitValue (getD s 0 0)) (digitValue (getD s 1 0))

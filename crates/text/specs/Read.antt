@@ -19,18 +19,21 @@ use Rattle.text.specs.Hex.{digit-of}
 use Rattle.text.specs.After.{after, meets, stepOf, goes-on}
 use Rattle.text.specs.declared.Cursor.{Cursor}
 
+-- the digit behind c, and the cursor behind it
 pub record IsDigit (s : List ℕ) (c : Cursor) (value : ℕ) (next : Cursor) : Type 0 where
   pub is : value ≡ digitOr0 (getD s (c .at) 0)
   pub slots : next ≡ after s c (digit value ∷ [])
   pub small : value < 16
   pub at : next .at ≡ c .at + 1
 
+-- the hexadecimal number behind c, and the cursor behind it
 pub record IsHex (s : List ℕ) (c : Cursor) (width value : ℕ) (next : Cursor) : Type 0 where
   pub is : value ≡ hexGuess width (drop (c .at) s)
   pub slots : next ≡ after s c (hexSlots width value)
   pub small : value < 16 ^ width
   pub at : next .at ≡ c .at + width
 
+-- the count behind c with its end, and the cursor behind it
 pub record IsCount (s : List ℕ) (c : Cursor) (end lo hi value : ℕ) (next : Cursor) : Type 0 where
   pub is : value ≡ countGuess lo hi (drop (c .at) s)
   pub slots : next ≡ after s c (countSlots end value)

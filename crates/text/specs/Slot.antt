@@ -18,10 +18,12 @@ digitValue b = cond (ltb b 48) 16 (cond (ltb b 58) (b - 48) (cond (ltb b 97) 16 
 unfoldable pub digitByte : ℕ → ℕ
 digitByte v = cond (ltb v 10) (v + 48) (v + 87)
 
+-- whether a slot admits a byte
 unfoldable pub admits : Slot → ℕ → Bool
 admits (exactly x) b = eqb b x
 admits (digit n) b = eqb (digitValue b) (n % 16)
 
+-- the byte that is written into a slot
 unfoldable pub written : Slot → ℕ
 written (exactly x) = x
 written (digit n) = digitByte (n % 16)

@@ -13,6 +13,7 @@ use Rattle.text.specs.Count.{counted}
 use Rattle.text.specs.Read.{IsHex, IsCount}
 use Rattle.text.specs.declared.Cursor.{Cursor}
 
+-- behind c the form gives the value, and the cursor behind it
 pub record Took {A : Type 0} (F : Form A) (s : List ℕ) (c : Cursor) (value : A) (next : Cursor) : Type 0 where
   pub is : value ≡ F .guess (drop (c .at) s)
   pub goes : next ≡ after s c (F .slots value)

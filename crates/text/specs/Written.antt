@@ -55,6 +55,7 @@ unfoldable pub small : Slot → ℕ → ℕ
 small (exactly x) b = b
 small (digit n) b = digitByte (digitValue b)
 
+-- the same of a text
 unfoldable pub smallOf : List Slot → List ℕ → List ℕ
 smallOf [] s = s
 smallOf (t ∷ ts) [] = []
