@@ -130,6 +130,7 @@ fn tables() {
     read(plant_w(9, 1), b"props=9, 513 spaces", &long);
     read(plant_w(0, 1), b"props=0, p8", b"p8");
     read(plant_w(2, 8), b"start={3}, p8", b"p8");
+    read(plant_w(9, 8), b"props=9, start={3}, p8", b"p8");
     read(plant_w(1, 1), b"a label with p1 where props=1, p8", b"p8");
     read(plant_w(8, 1), b"props=8, p7", b"p7");
 }

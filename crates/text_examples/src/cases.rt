@@ -59,13 +59,14 @@ fn changed(text: &[u8], at: usize, byte: u8, is_log: bool) {
     tell(outcome_of(&copy[..n], is_log));
 }
 
-// Each byte changed to the digit 9, and to the letter g, which stands in no text.
+// Each byte changed to the digit 9, and to one that stands in no text: the letter g, the byte 0, CR and the byte 255 in turn.
 fn changes(text: &[u8], is_log: bool) {
+    let strange = [b'g', 0, b'\r', 255];
     let mut at = 0;
     while at < text.len() {
         digits(at);
         changed(text, at, b'9', is_log);
-        changed(text, at, b'g', is_log);
+        changed(text, at, strange[at % 4], is_log);
         end();
         at += 1;
     }

@@ -20,6 +20,7 @@ fn tables() {
     handed(1, 1, 1, 3);
     handed(1, 1, 1, 5);
     handed(1, 1, 2, 4);
+    handed(9, 1, 2, 4);
 }
 
 // Events: see, val, props.
