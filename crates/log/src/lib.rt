@@ -42,7 +42,7 @@ struct Line {
     good: usize,
 }
 
-// Whether the event sees propositions below `props` alone and gives 1 to none but those seen. No table has more than 16 propositions: beyond, none is legal.
+// Whether the event sees propositions below `props` alone and gives 1 to none but those seen. An event has room for 16 propositions: for a larger count, which no table has, none is legal.
 pub fn is_legal(event: Event, props: usize) -> bool
     ensures { λ r. ⌜ r ≡ legalOf event props ⌝ }
 {

@@ -1,4 +1,4 @@
--- Demand 3: after accepted events, fed one by one to the calls, the lamp says what the runs say.
+-- Demand 3 (promise 3 of docs/PROMISES.md): after accepted events, fed one by one to the calls, the lamp says what the runs say.
 use Prim.Native.Nat.{ℕ}
 use mathlib.Core.Path.{_≡_, subst}
 use mathlib.Core.Bool.{Bool, false, cond, not}
