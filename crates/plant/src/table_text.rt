@@ -117,11 +117,11 @@ fn read_rows(text: &[u8], c: Cursor, n: usize) -> Rows
 fn parse(text: &[u8]) -> Parsed
     ensures { λ r. ⌜ IsParsed (now (text .entry)) (r .table) (r .end) ⌝ }
 {
-    let props = count_line(text, Cursor::START, b"props=", 1, 8);
-    let states = count_line(text, props.next, b"states=", 1, 64);
+    let props = count_line(text, Cursor::START, b"props=", 1, Plant::PROPS);
+    let states = count_line(text, props.next, b"states=", 1, Plant::STATES);
     let key = expect_all(text, states.next, b"start=");
     let start = hex_end(text, key, 16);
-    let just = count_line(text, start.next, b"just=", 0, 4);
+    let just = count_line(text, start.next, b"just=", 0, Plant::JUST);
     let fair = read_fair(text, just.next, just.value);
     let rows = read_rows(text, fair.end, states.value);
     let words = fair.words;

@@ -12,11 +12,12 @@ use Rattle.meaning.specs.Event.{History, since, now}
 use Rattle.meaning.specs.Pair.{Live}
 use Rattle.meaning.specs.Verdict.{Chosen, At, CanBe, Right}
 use Rattle.words.specs.Below.{countBelow}
-use Rattle.pairs.specs.Sets.{inside, emptyOf}
+use Rattle.pairs.specs.Sets.{inside, emptyOf, occursIn}
 use Rattle.theory.specs.Narrow.{Narrower}
 use Rattle.theory.specs.Join.{after}
 use Rattle.model.specs.Lives.{live-says}
 use Rattle.model.specs.Monitor as model
+use Rattle.model.specs.Shown.{occurs-says}
 use Rattle.model.specs.Log as log
 use Rattle.model.specs.Witness.{Witness}
 use Rattle.answers.specs.declared.Answer.{Answer}
@@ -48,7 +49,7 @@ pub record Lit (T : run.Plant) (f : Formula) (h : History) (a : Answer) : Type 0
   pub left : ℕ
   pub shown : paper a ≡ verdict number left
   pub right : Right T f h number
-  pub counts : (t : ℕ → Bool) → ((s : ℕ) → Says (t s) (CanBe T h s)) → left ≡ countBelow (T .states) t
+  pub counts : (t : ℕ → Bool) × ((s : ℕ) → Says (t s) (CanBe T h s)) × (left ≡ countBelow (T .states) t)
 
 -- what a monitor of the model shows
 lamp-number : (m : model.Monitor) → shownNumber (lampOf m) ≡ model.verdict m
@@ -82,8 +83,14 @@ module _ (p : Plant) (fair label next : List ℕ) (rule : Rule) (given : Input p
       left = model.left (log.watched T f (map eventOf es));
       shown = lamp-paper (log.watched T f (map eventOf es));
       right = log.log-right T f (given .table) (given .few) (map eventOf es);
-      counts = log.log-left T f (given .table) (given .few) (map eventOf es);
+      counts = (can, can-says, log.log-left T f (given .table) (given .few) (map eventOf es) can can-says);
     })
+      where
+        can : ℕ → Bool
+        can = occursIn (log.watched T f (map eventOf es) .keeps) (log.watched T f (map eventOf es) .breaks)
+
+        can-says : (s : ℕ) → Says (can s) (CanBe T h s)
+        can-says = occurs-says T f (given .table) (given .few) (log.watched T f (map eventOf es)) h (log.log-means T f (given .table) (given .few) (map eventOf es))
 
     -- how a witness that is asked for now goes on: some walk that agrees with the events, joined with it, is a run of the asked kind
     pub witness-goes-on : (b : Bool) (L : Lasso) → Witness T f (sideOf (watching.after p fair label next rule es .monitor) b) L
