@@ -1,3 +1,4 @@
+pub mod Columns
 pub mod Ops
 pub mod Shape
 pub mod Nodes

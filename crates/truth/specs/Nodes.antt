@@ -39,7 +39,14 @@ madeOf Implies having x y own = bitOr (2 ^ 64 - 1 - x) y
 abbrev pub wordAt : List ℕ → ℕ → ℕ → ℕ
 wordAt words place v = cond (ltb place 33) (getD words (place * 64 + v) 0) 0
 
--- the words after n turns
+-- the words with the first n behind node `at` filled in: its first operand ends at `first`, and it is part `number`
+unfoldable pub nodeFilled : Op → List ℕ → ℕ → ℕ → ℕ → List ℕ → ℕ → List ℕ
+nodeFilled op having first number at words zero = words
+nodeFilled op having first number at words (suc v) =
+    let w = nodeFilled op having first number at words v in
+    set w (at * 64 + v + 64) (madeOf op having (wordAt w first v) (getD w (at * 64 + v) 0) (ownOf v number))
+
+-- all words, one after the other, after n of them
 unfoldable pub nodesAfter : List Node → List ℕ → List ℕ → List ℕ → ℕ → List ℕ
 nodesAfter nodes having begins numbers zero = replicate 2112 0
 nodesAfter nodes having begins numbers (suc n) =

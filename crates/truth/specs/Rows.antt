@@ -64,6 +64,12 @@ toldOf High op x y own = highOf op x y own
 toldOf Operand op x y own = operandOf op y
 toldOf Settled op x y own = settledOf op y own
 
+-- part k at v: the word of the first of two operands is that of the place `first`, of the last that of `last`
+unfoldable pub partAt : Asked → Op → ℕ → ℕ → List ℕ → ℕ → ℕ → ℕ
+partAt asked op first last words k v = toldOf asked op (wordAt words first v) (wordAt words last v) (ownOf v k)
+
+unfoldable pub rowAt : Asked → List Node → List ℕ → List ℕ → List ℕ → ℕ → ℕ → ℕ
+rowAt asked kinds begins order words v k = partAt asked (opAt kinds k) (getD begins (getD order k 0) 0) (getD order k 0) words k v
+
 unfoldable pub rowsFrom : Asked → List Node → List ℕ → List ℕ → List ℕ → List ℕ
-rowsFrom asked kinds begins order words = listBelow 384 (λ i.
-    toldOf asked (opAt kinds (i % 6)) (wordAt words (getD begins (getD order (i % 6) 0) 0) (i / 6)) (wordAt words (getD order (i % 6) 0) (i / 6)) (ownOf (i / 6) (i % 6)))
+rowsFrom asked kinds begins order words = listBelow 384 (λ i. rowAt asked kinds begins order words (i / 6) (i % 6))

@@ -1,18 +1,20 @@
 -- What one more turn makes of each list that a loop fills.
-use Prim.Native.Nat.{ℕ, zero, suc, _+_, _/_, _%_}
-use mathlib.Core.Path.{_≡_, refl, ap, _∙_}
+use Prim.Native.Nat.{ℕ, zero, suc, _+_, _*_, _/_, _%_, _≤_}
+use mathlib.Core.Path.{_≡_, refl, sym, ap, _∙_}
 use mathlib.Core.Bool.{Bool, true, false, cond}
 use mathlib.Core.List.{List}
 use native.Mathlib.Numerals.{add-one}
+use native.Mathlib.Omega.{arith}
 use lib.ListN.{length, getD, set, length-set}
 use Rattle.syntax.specs.declared.Node.{Node}
 use Rattle.syntax.specs.declared.Op.{Op}
 use Rattle.words.specs.Word.{digit}
 use Rattle.words.specs.Folds.{count-more}
+use Rattle.truth.specs.Columns.{columnFilled, columnsFilled, columns-all, column-turn}
 use Rattle.truth.specs.Ops.{opAt, isPart}
 use Rattle.truth.specs.Shape.{beginOf, beginsOf, partsBefore, countsOf, orderedOf, orderOf, kindsAfter}
-use Rattle.truth.specs.Nodes.{madeOf, ownOf, wordAt, nodesAfter}
-use Rattle.truth.specs.Rows.{toldOf}
+use Rattle.truth.specs.Nodes.{madeOf, ownOf, wordAt, nodeFilled, nodesAfter}
+use Rattle.truth.specs.Rows.{toldOf, partAt, rowAt, rowsFrom}
 use Rattle.truth.specs.declared.rows.Asked.{Asked}
 
 begins-more :
@@ -61,24 +63,57 @@ pub kinds-more :
 unfolding kindsAfter
 kinds-more nodes l n = rw add-one
 
--- the word behind node n / 64, at the valuation n % 64
-pub nodes-turn :
-    (nodes : List Node) (having begins numbers : List ℕ) (n : ℕ) (w : List ℕ) (first x number own y : ℕ) →
-    w ≡ nodesAfter nodes having begins numbers n → first ≡ getD begins (n / 64) 0 → x ≡ wordAt w first (n % 64) →
-    number ≡ getD numbers (n / 64) 0 → own ≡ ownOf (n % 64) number → y ≡ madeOf (opAt nodes (n / 64)) having x (getD w n 0) own →
-    set w (n + 64) y ≡ nodesAfter nodes having begins numbers (n + 1)
-unfolding nodesAfter
-nodes-turn nodes having begins numbers n w first x number own y e f p m o h = rw (h, o, m, p, f, e, add-one)
+-- ---- the words behind node `at`
 
--- entry i of a table of parts
-unfoldable pub rowAt : Asked → List Node → List ℕ → List ℕ → List ℕ → ℕ → ℕ
-rowAt asked kinds begins order words i =
-    toldOf asked (opAt kinds (i % 6)) (wordAt words (getD begins (getD order (i % 6) 0) 0) (i / 6))
-    (wordAt words (getD order (i % 6) 0) (i / 6)) (ownOf (i / 6) (i % 6))
+pub node-turn :
+    (op : Op) (having : List ℕ) (first number at : ℕ) (words : List ℕ) (v : ℕ) (w : List ℕ) (x own y : ℕ) →
+    w ≡ nodeFilled op having first number at words v → x ≡ wordAt w first v → own ≡ ownOf v number →
+    y ≡ madeOf op having x (getD w (at * 64 + v) 0) own → set w (at * 64 + v + 64) y ≡ nodeFilled op having first number at words (v + 1)
+unfolding nodeFilled
+node-turn op having first number at words v w x own y e g o h = rw (h, o, g, e, add-one)
 
-pub row-told :
-    (asked : Asked) (kinds : List Node) (begins order words : List ℕ) (i last first x y own r : ℕ) →
-    last ≡ getD order (i % 6) 0 → first ≡ getD begins last 0 → x ≡ wordAt words first (i / 6) → y ≡ wordAt words last (i / 6) →
-    own ≡ ownOf (i / 6) (i % 6) → r ≡ toldOf asked (opAt kinds (i % 6)) x y own → r ≡ rowAt asked kinds begins order words i
-unfolding rowAt
-row-told asked kinds begins order words i last first x y own r l f p q o h = rw (h, o, q, p, f, l)
+module _ (nodes : List Node) (having begins numbers : List ℕ) where
+  abbrev after : ℕ → List ℕ
+  after n = nodesAfter nodes having begins numbers n
+
+  -- they are the next 64
+  node-words : (at v : ℕ) → v ≤ 64 → after (at * 64 + v) ≡ nodeFilled (opAt nodes at) having (getD begins at 0) (getD numbers at 0) at (after (at * 64)) v
+  unfolding nodesAfter nodeFilled
+  node-words at zero l = let e : at * 64 + 0 ≡ at * 64 = omega arith in rw e
+  node-words at (suc v) l =
+      let q : (at * 64 + v) / 64 ≡ at = omega arith in
+      let r : (at * 64 + v) % 64 ≡ v = omega arith in
+      let n : at * 64 + suc v ≡ suc (at * 64 + v) = omega arith in
+      let e = node-words at v (omega arith) in
+      rw (← e, n, q, r)
+
+  pub nodes-turn :
+      (at : ℕ) (w : List ℕ) (first number : ℕ) (r : List ℕ) → w ≡ after (at * 64) → first ≡ getD begins at 0 → number ≡ getD numbers at 0 →
+      r ≡ nodeFilled (opAt nodes at) having first number at w 64 → r ≡ after ((at + 1) * 64)
+  nodes-turn at w first number r e f m h =
+      let n : (at + 1) * 64 ≡ at * 64 + 64 = omega arith in
+      rw (h, m, f, e, n) (sym (node-words at 64 (omega arith)))
+
+-- ---- the entries of part k
+
+pub part-turn :
+    (asked : Asked) (op : Op) (first last : ℕ) (words : List ℕ) (k : ℕ) (t : List ℕ) (v : ℕ) (l : List ℕ) (x y own r : ℕ) →
+    l ≡ columnFilled k (partAt asked op first last words k) t v → x ≡ wordAt words first v → y ≡ wordAt words last v → own ≡ ownOf v k →
+    r ≡ toldOf asked op x y own → set l (v * 6 + k) r ≡ columnFilled k (partAt asked op first last words k) t (v + 1)
+unfolding partAt
+part-turn asked op first last words k t v l x y own r e p q o h =
+    column-turn k v (partAt asked op first last words k) t l r e (rw (h, o, q, p) refl)
+
+pub rows-turn :
+    (asked : Asked) (kinds : List Node) (begins order words : List ℕ) (k : ℕ) (t : List ℕ) (first last : ℕ) (r : List ℕ) →
+    t ≡ columnsFilled (rowAt asked kinds begins order words) k → last ≡ getD order k 0 → first ≡ getD begins last 0 →
+    r ≡ columnFilled k (partAt asked (opAt kinds k) first last words k) t 64 → r ≡ columnsFilled (rowAt asked kinds begins order words) (k + 1)
+unfolding columnsFilled rowAt
+rows-turn asked kinds begins order words k t first last r e l f h = rw (h, f, l, e, add-one)
+
+-- after the last part
+pub rows-all :
+    (asked : Asked) (kinds : List Node) (begins order words : List ℕ) →
+    columnsFilled (rowAt asked kinds begins order words) 6 ≡ rowsFrom asked kinds begins order words
+unfolding rowsFrom
+rows-all asked kinds begins order words = columns-all (rowAt asked kinds begins order words)

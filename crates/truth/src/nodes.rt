@@ -3,9 +3,9 @@ use crate::shape::entry;
 use syntax::Op;
 use syntax::Rule;
 ghost use mathlib.Core.Path.{_≡_};
-ghost use Prim.Native.Nat.{_*_, _+_, _≤_, _<_};
-ghost use lib.ListN.{getD, length};
-ghost use Rattle.truth.specs.Nodes.{havings, ownOf, madeOf, wordAt, nodesAfter, holdsOf};
+ghost use Prim.Native.Nat.{_*_, _≤_, _<_};
+ghost use lib.ListN.{length};
+ghost use Rattle.truth.specs.Nodes.{havings, ownOf, madeOf, wordAt, nodeFilled, nodesAfter, holdsOf};
 
 pub struct Having {
     pub words: [u64; 8],
@@ -68,7 +68,26 @@ pub struct Nodes {
     pub words: [u64; 2112],
 }
 
-// Node by node, and for each node valuation by valuation: the word behind node p comes from the words before it.
+// The words behind node `at`, which come from words before them: `first` is where the first of two operands ends, `number` which part
+// the node is. (A loop for each node: what the node says is looked up once, and not for each word.)
+fn fill_node(
+    op: Op,
+    having: &[u64; 8],
+    first: usize,
+    number: usize,
+    at: usize,
+    words: &mut [u64; 2112],
+)
+    requires { ⌜ at < 32 ⌝ }
+    ensures { λ _. ⌜ now (words .exit) ≡ nodeFilled op (now (having .entry)) first number at (now (words .entry)) 64 ⌝ }
+{
+    for v in 0..64 {
+        let x = word_at(words, first, v);
+        words[at * 64 + v + 64] = made(op, having, x, words[at * 64 + v], own(v, number));
+    }
+}
+
+// Node by node.
 pub fn node_words(
     rule: Rule,
     having: &[u64; 8],
@@ -78,15 +97,19 @@ pub fn node_words(
     requires { ⌜ rule .len ≤ 32 ⌝ }
     ensures { λ r. ⌜ r .words ≡ nodesAfter (rule .nodes) (now (having .entry)) (now (begins .entry)) (now (numbers .entry)) (rule .len * 64) ⌝ }
 {
-    let count = rule.len * 64;
+    let len = rule.len;
     let mut words = [0u64; 2112];
-    for i in 0..count {
-        let at = i / 64;
-        let v = i % 64;
+    for at in 0..len {
         let node = rule.nodes[at];
         let op = node.op;
-        let x = word_at(&words, entry(begins, at), v);
-        words[i + 64] = made(op, having, x, words[i], own(v, entry(numbers, at)));
+        fill_node(
+            op,
+            having,
+            entry(begins, at),
+            entry(numbers, at),
+            at,
+            &mut words,
+        );
     }
     Nodes { words }
 }

@@ -5,8 +5,9 @@ use crate::shape::Kinds;
 use crate::shape::entry;
 use syntax::Op;
 ghost use mathlib.Core.Path.{_≡_};
-ghost use Prim.Native.Nat.{_+_, _*_, _<_};
-ghost use Rattle.truth.specs.Rows.{lowOf, highOf, operandOf, settledOf, toldOf, rowsFrom};
+ghost use Prim.Native.Nat.{_<_};
+ghost use Rattle.truth.specs.Columns.{columnFilled};
+ghost use Rattle.truth.specs.Rows.{lowOf, highOf, operandOf, settledOf, toldOf, partAt, rowsFrom};
 
 // What is asked of a part: what it unfolds to where its value next is 0, or 1; the operand of an X; whether it is settled.
 pub enum Asked {
@@ -96,6 +97,27 @@ pub struct Rows {
     pub words: [u64; 384],
 }
 
+// Part k: its entries at all valuations. `first` and `last` are where its operands end. (A loop for each part: what the part says is
+// looked up once, and no entry needs a division.)
+fn fill_part(
+    asked: Asked,
+    op: Op,
+    first: usize,
+    last: usize,
+    words: &[u64; 2112],
+    k: usize,
+    table: &mut [u64; 384],
+)
+    requires { ⌜ k < 6 ⌝ }
+    ensures { λ _. ⌜ now (table .exit) ≡ columnFilled k (partAt asked op first last (now (words .entry)) k) (now (table .entry)) 64 ⌝ }
+{
+    for v in 0..64 {
+        let x = word_at(words, first, v);
+        let y = word_at(words, last, v);
+        table[v * 6 + k] = told(asked, op, x, y, own(v, k));
+    }
+}
+
 // The whole table.
 pub fn rows_of(
     asked: Asked,
@@ -107,15 +129,11 @@ pub fn rows_of(
     ensures { λ r. ⌜ r .words ≡ rowsFrom asked (kinds .nodes) (now (begins .entry)) (now (order .entry)) (now (words .entry)) ⌝ }
 {
     let mut table = [0u64; 384];
-    for at in 0..384 {
-        let v = at / 6;
-        let k = at % 6;
+    for k in 0..6 {
         let node = kinds.nodes[k];
         let op = node.op;
         let last = entry(order, k);
-        let x = word_at(words, entry(begins, last), v);
-        let y = word_at(words, last, v);
-        table[at] = told(asked, op, x, y, own(v, k));
+        fill_part(asked, op, entry(begins, last), last, words, k, &mut table);
     }
     Rows { words: table }
 }

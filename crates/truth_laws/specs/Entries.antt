@@ -26,7 +26,7 @@ use Rattle.truth.specs.Ops.{opAt, isPart, isStep}
 use Rattle.truth.specs.Shape.{beginsOf, kindsOf, orderIn}
 use Rattle.truth.specs.Nodes.{ownOf, wordAt}
 use Rattle.truth.specs.declared.rows.Asked.{Asked}
-use Rattle.truth.specs.Rows.{toldOf, rowsFrom}
+use Rattle.truth.specs.Rows.{toldOf, partAt, rowAt, rowsFrom}
 use Rattle.truth.specs.Tables.{wordsIn, rowsIn}
 use Rattle.truth_laws.specs.Words.{own-small}
 use Rattle.truth_laws.specs.Tree.{one, two, treeOf, nodesIn}
@@ -53,14 +53,14 @@ module _ (T : Plant) (A : AcceptedTable T) (rule : Rule) where
   told asked v k = toldOf asked (opAt kinds k) (word (begins (order k)) v) (word (order k) v) (ownOf v k)
 
   entry-at : (asked : Asked) (x : ℕ) → x < 384 → getD (rowsIn asked (T .label) rule) x 0 ≡ told asked (x / 6) (x % 6)
-  unfolding rowsIn rowsFrom
+  unfolding rowsIn rowsFrom rowAt partAt
   entry-at asked x l = list-at 384 (λ i. told asked (i / 6) (i % 6)) x l
 
   entry-told : (asked : Asked) (v k : ℕ) → v < 64 → k < 6 → entry (rowsIn asked (T .label) rule) v k ≡ told asked v k
   entry-told asked v k lv lk = entry-at asked (v * 6 + k) (omega arith) ∙ ap₂ (told asked) (omega arith) (omega arith)
 
   length-rows : (asked : Asked) → length (rowsIn asked (T .label) rule) ≡ 384
-  unfolding rowsIn rowsFrom
+  unfolding rowsIn rowsFrom rowAt partAt
   length-rows asked = length-list 384 (λ i. told asked (i / 6) (i % 6))
 
   -- each is a word
