@@ -59,7 +59,7 @@ fn middle(parts: usize) -> usize
 }
 
 // For v, and a half of w. (Both halves in one turn: with one store a turn the compiler no longer unrolls them.)
-pub fn leaving(parts: usize, low: &[u64; 384], high: &[u64; 384]) -> Halves
+pub fn leaving<'a>(parts: usize, low: &'a [u64; 384], high: &'a [u64; 384]) -> Halves
     requires { ⌜ parts ≤ 6 ⌝ }
     ensures { λ r. ⌜ r .words ≡ leavingOf parts (now (low .entry)) (now (high .entry)) ⌝ }
 {

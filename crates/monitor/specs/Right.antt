@@ -32,8 +32,9 @@ use Rattle.leads.specs.Right.{image-halves}
 use Rattle.pairs.specs.declared.Pairs.{Pairs}
 use Rattle.syntax.specs.declared.Rule.{Rule}
 use Rattle.log.specs.declared.Event.{Event}
+use Rattle.truth.specs.declared.tables.MoveTables.{MoveTables}
 use Rattle.truth.specs.declared.tables.Tables.{Tables}
-use Rattle.truth.specs.Tables.{tablesOf}
+use Rattle.truth.specs.Tables.{moveTablesIn, tablesOf}
 use Rattle.truth.specs.Right.{RightTables}
 use Rattle.monitor.specs.declared.Monitor.{Monitor}
 use Rattle.monitor.specs.Sides.{sidesOf, opensIn, opensOf, cutIn, cutOf, imageIn, openedOf, keptOf, movedOf, steppedOf}
@@ -62,7 +63,7 @@ module _ (T : run.Plant) (f : Formula) (A : AcceptedTable T) (small : Small f) (
     opens-right b = words-wide (2 ^ parts f) (model.opensAt T f live b) (opensIn live (T .start) (t .holds) b) (valuations-few f small) (opens-at b) (λ v h. none-beyond _ _ v h)
 
     pub image-right : (held : List ℕ) → PairSet T f held → (agree : ℕ)
-        → imageOf (T .next) held (from T f) (to T f) (2 ^ parts f) live agree ≡ imageIn t (T .next) held live agree
+        → imageOf (T .next) held (from T f) (to T f) (2 ^ parts f) live agree ≡ imageIn (moveTablesIn t) (T .next) held live agree
     unfolding imageIn
     image-right held h agree = rw (R .count) (sym (image-halves T f A small (t .low) (t .high) (t .nexts) (t .operand) (R .low) (R .high) (R .nexts) (R .operand) held h live agree))
 
@@ -107,7 +108,7 @@ module _ (T : run.Plant) (f : Formula) (A : AcceptedTable T) (small : Small f) (
             (sym (words-at (2 ^ parts f) (model.opensAt T f (live .words) b) v (lt-of-lt-of-le l (valuations-few f small)) ∙ rw (lt-ltb v (2 ^ parts f) l) refl))
 
     -- a move
-    next-side : m .seen ≡ true → e .new ≡ false → (b : Bool) → after b ≡ imageIn (tablesOf (T .label) rule) (T .next) (model.side (modelOf m) b) (live .words) agree
+    next-side : m .seen ≡ true → e .new ≡ false → (b : Bool) → after b ≡ imageIn (moveTablesIn (tablesOf (T .label) rule)) (T .next) (model.side (modelOf m) b) (live .words) agree
     next-side seen new b =
         moved-image T f (live .words) (modelOf m) (eventOf e) b seen new
         ∙ image-right T f A small (live .words) z (tablesOf (T .label) rule) R (model.side (modelOf m) b) (held b) agree
@@ -132,7 +133,7 @@ module _ (T : run.Plant) (f : Formula) (A : AcceptedTable T) (small : Small f) (
 pub opens-are : {t u : Tables} {r : List ℕ} (live : List ℕ) (start : ℕ) (b : Bool) → t ≡ u → r ≡ opensOf live start (t .holds) b → r ≡ opensOf live start (u .holds) b
 opens-are live start b e h = h ∙ ap (λ (x : Tables). opensOf live start (x .holds) b) e
 
-pub image-is : {t u : Tables} {leave enter r : List ℕ} {count : ℕ} (next held live : List ℕ) (agree : ℕ) → t ≡ u
+pub image-is : {t u : MoveTables} {leave enter r : List ℕ} {count : ℕ} (next held live : List ℕ) (agree : ℕ) → t ≡ u
     → leave ≡ leavingOf (t .parts) (t .low) (t .high) → enter ≡ enteringOf (t .parts) (t .nexts) (t .operand) → count ≡ 2 ^ t .parts
     → r ≡ imageOf next held (fromIn leave) (toIn enter) count live agree → r ≡ imageIn u next held live agree
 unfolding imageIn

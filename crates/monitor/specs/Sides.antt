@@ -11,8 +11,8 @@ use Rattle.leads.specs.Halves.{leavingOf, enteringOf, fromIn, toIn}
 use Rattle.labels.specs.Labels.{agreeingOf}
 use Rattle.syntax.specs.declared.Rule.{Rule}
 use Rattle.log.specs.declared.Event.{Event}
-use Rattle.truth.specs.declared.tables.Tables.{Tables}
-use Rattle.truth.specs.Tables.{tablesOf}
+use Rattle.truth.specs.declared.tables.MoveTables.{MoveTables}
+use Rattle.truth.specs.Tables.{moveTablesIn, tablesOf}
 use Rattle.monitor.specs.declared.Monitor.{Monitor}
 
 abbrev pub sidesOf : Bool → List ℕ → List ℕ → Monitor
@@ -33,7 +33,7 @@ unfoldable pub cutOf : List ℕ → List ℕ → ℕ → List ℕ
 cutOf held live agree = wordsBelow 64 (cutIn held live agree)
 
 -- of the pairs that those held lead to
-unfoldable pub imageIn : Tables → List ℕ → List ℕ → List ℕ → ℕ → List ℕ
+unfoldable pub imageIn : MoveTables → List ℕ → List ℕ → List ℕ → ℕ → List ℕ
 imageIn t next held live agree =
     imageOf next held (fromIn (leavingOf (t .parts) (t .low) (t .high))) (toIn (enteringOf (t .parts) (t .nexts) (t .operand))) (2 ^ t .parts) live agree
 
@@ -47,7 +47,8 @@ keptOf m live agree = sidesOf true (cutOf (m .keeps .words) (live .words) agree)
 
 unfoldable pub movedOf : List ℕ → List ℕ → Rule → Pairs → Monitor → ℕ → Monitor
 movedOf label next rule live m agree =
-    sidesOf true (imageIn (tablesOf label rule) next (m .keeps .words) (live .words) agree) (imageIn (tablesOf label rule) next (m .breaks .words) (live .words) agree)
+    let t = moveTablesIn (tablesOf label rule) in
+    sidesOf true (imageIn t next (m .keeps .words) (live .words) agree) (imageIn t next (m .breaks .words) (live .words) agree)
 
 -- at the first event the pairs held, at a restart those at the start, else where moves lead
 unfoldable pub steppedOf : ℕ → List ℕ → List ℕ → Rule → Pairs → Monitor → Event → Monitor

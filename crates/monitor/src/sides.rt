@@ -46,14 +46,11 @@ fn moved(
     requires { ⌜ Ready (now label) rule ⌝ }
     ensures { λ r. ⌜ r ≡ movedOf (now (label .entry)) (now (next .entry)) rule live monitor agree ⌝ }
 {
-    let tables = truth::tables::tables_of(label, rule);
-    let low = tables.low;
-    let high = tables.high;
-    let operand = tables.operand;
+    let tables = truth::tables::move_tables_of(label, rule);
     let held = monitor.keeps;
     let other = monitor.breaks;
-    let leave = leads::halves::leaving(tables.parts, &low, &high);
-    let enter = leads::halves::entering(tables.parts, tables.nexts, &operand);
+    let leave = leads::halves::leaving(tables.parts, &tables.low, &tables.high);
+    let enter = leads::halves::entering(tables.parts, tables.nexts, &tables.operand);
     let count = moves::valuations(tables.parts);
     let keeps = leads::images::image(
         next,

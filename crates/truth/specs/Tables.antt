@@ -1,5 +1,6 @@
 -- All that moves go by, of labels and a rule.
 use Prim.Native.Nat.{ℕ, _*_}
+use mathlib.Core.Path.{_≡_}
 use mathlib.Core.List.{List}
 use Rattle.syntax.specs.declared.Rule.{Rule}
 use Rattle.truth.specs.Shape.{beginsOf, numbersOf, kindsOf, nextsIn, partsIn, orderIn}
@@ -8,7 +9,15 @@ use Rattle.truth.specs.Rows.{rowsFrom}
 use Rattle.truth.specs.declared.rows.Asked.{Asked}
 use Rattle.truth.specs.declared.rows.Asked.the-variants.{Low, High, Operand, Settled}
 use Rattle.truth.specs.declared.shape.Shape.{Shape}
+use Rattle.truth.specs.declared.tables.MoveTables.{MoveTables}
 use Rattle.truth.specs.declared.tables.Tables.{Tables}
+
+-- that s is a rule's shape
+abbrev pub Shaped : Rule → Shape → Type 0
+Shaped rule s =
+    (s .begins ≡ beginsOf (rule .nodes) (rule .len)) × (s .parts ≡ partsIn rule) × (s .order ≡ orderIn rule)
+    × (s .kinds .nodes ≡ kindsOf (rule .nodes) (orderIn rule)) × (s .numbers ≡ numbersOf (orderIn rule) (partsIn rule))
+    × (s .nexts ≡ nextsIn (kindsOf (rule .nodes) (orderIn rule)) (partsIn rule))
 
 -- the words of all places of a rule
 unfoldable pub wordsIn : List ℕ → Rule → List ℕ
@@ -21,8 +30,20 @@ rowsIn asked label rule =
     rowsFrom asked (kindsOf (rule .nodes) (orderIn rule)) (beginsOf (rule .nodes) (rule .len)) (orderIn rule) (wordsIn label rule)
 
 -- the same from a rule's shape and the words of its places, as the code goes
+abbrev pub wordsBy : List ℕ → Rule → Shape → List ℕ
+wordsBy label rule shape = nodesAfter (rule .nodes) (havings label) (shape .begins) (shape .numbers) (rule .len * 64)
+
 abbrev pub rowsBy : Asked → Shape → List ℕ → List ℕ
 rowsBy asked shape words = rowsFrom asked (shape .kinds .nodes) (shape .begins) (shape .order) words
+
+unfoldable pub moveTablesFrom : Shape → List ℕ → MoveTables
+moveTablesFrom shape words = record {
+  parts = shape .parts;
+  nexts = shape .nexts;
+  low = rowsBy Low shape words;
+  high = rowsBy High shape words;
+  operand = rowsBy Operand shape words;
+}
 
 unfoldable pub tablesFrom : Shape → List ℕ → ℕ → Tables
 tablesFrom shape words len = record {
@@ -46,3 +67,7 @@ tablesOf label rule = record {
   settled = rowsIn Settled label rule;
   holds = holdsOf (wordsIn label rule) (rule .len);
 }
+
+-- those of them that a move goes by
+abbrev pub moveTablesIn : Tables → MoveTables
+moveTablesIn t = record { parts = t .parts; nexts = t .nexts; low = t .low; high = t .high; operand = t .operand }

@@ -11,7 +11,8 @@ ghost use mathlib.Core.Path.{_≡_};
 ghost use mathlib.Core.Bool.{cond};
 ghost use Prim.Native.Nat.{_≤_, _<_};
 ghost use lib.ListN.{getD};
-ghost use Rattle.truth.specs.Shape.{beginOf, beginsOf, countsOf, insertedOf, orderedOf, orderOf, numberIn, numbersOf, kindsOf, nextsIn, partsIn, orderIn};
+ghost use Rattle.truth.specs.Tables.{Shaped};
+ghost use Rattle.truth.specs.Shape.{beginOf, beginsOf, countsOf, insertedOf, orderedOf, orderOf, numberIn, numbersOf, kindsOf, nextsIn, partsIn};
 
 // For each place.
 pub struct Places {
@@ -198,9 +199,7 @@ fn nexts_of(kinds: Kinds, parts: usize) -> u64
 // All of it. The rule is one that some text gives.
 pub fn shape_of(rule: Rule) -> Shape
     requires { ⌜ (rule .len ≤ 32) × (partsIn rule ≤ 6) ⌝ }
-    ensures { λ r. ⌜ (r .begins ≡ beginsOf (rule .nodes) (rule .len)) × (r .parts ≡ partsIn rule) × (r .order ≡ orderIn rule)
-        × (r .kinds .nodes ≡ kindsOf (rule .nodes) (orderIn rule)) × (r .numbers ≡ numbersOf (orderIn rule) (partsIn rule))
-        × (r .nexts ≡ nextsIn (kindsOf (rule .nodes) (orderIn rule)) (partsIn rule)) ⌝ }
+    ensures { λ r. ⌜ Shaped rule r ⌝ }
 {
     let len = rule.len;
     let firsts = begins_of(rule);

@@ -1,4 +1,5 @@
 // All that moves go by, of labels and a rule.
+use crate::nodes::Nodes;
 use crate::nodes::node_words;
 use crate::nodes::propositions;
 use crate::nodes::rule_words;
@@ -10,9 +11,10 @@ use crate::shape::shape_of;
 use syntax::Rule;
 ghost use mathlib.Core.Path.{_≡_};
 ghost use Rattle.truth.specs.Ready.{Ready};
-ghost use Rattle.truth.specs.Tables.{rowsBy, tablesFrom, tablesOf};
+ghost use Rattle.truth.specs.Tables.{wordsBy, rowsBy, moveTablesFrom, moveTablesIn, tablesFrom, tablesOf};
 
-pub struct Tables {
+// What a move goes by.
+pub struct MoveTables {
     pub parts: usize,
     // which parts are X
     pub nexts: u64,
@@ -21,10 +23,30 @@ pub struct Tables {
     pub high: [u64; 384],
     // the operand of an X
     pub operand: [u64; 384],
+}
+
+// That, and what goals and openings go by besides.
+pub struct Tables {
+    pub parts: usize,
+    pub nexts: u64,
+    pub low: [u64; 384],
+    pub high: [u64; 384],
+    pub operand: [u64; 384],
     // where a part is settled
     pub settled: [u64; 384],
     // where the rule itself holds
     pub holds: [u64; 64],
+}
+
+// The words of all places of a rule, by its shape.
+fn words_of(label: &[u16], rule: Rule, shape: Shape) -> Nodes
+    requires { ⌜ Ready (now label) rule ⌝ }
+    ensures { λ r. ⌜ r .words ≡ wordsBy (now (label .entry)) rule shape ⌝ }
+{
+    let begins = shape.begins;
+    let numbers = shape.numbers;
+    let having = propositions(label);
+    node_words(rule, &having.words, &begins, &numbers)
 }
 
 // One table of the parts.
@@ -38,22 +60,38 @@ fn row(asked: Asked, shape: Shape, words: &[u64; 2112]) -> Rows
 }
 
 // From a rule's shape and the words of its places.
-fn tables_from(shape: Shape, words: &[u64; 2112], len: usize) -> Tables
-    ensures { λ r. ⌜ r ≡ tablesFrom shape (now (words .entry)) len ⌝ }
+fn move_tables_from(shape: Shape, words: &[u64; 2112]) -> MoveTables
+    ensures { λ r. ⌜ r ≡ moveTablesFrom shape (now (words .entry)) ⌝ }
 {
     let lows = row(Asked::Low, shape, words);
     let highs = row(Asked::High, shape, words);
     let operands = row(Asked::Operand, shape, words);
-    let settles = row(Asked::Settled, shape, words);
-    let rules = rule_words(words, len);
     let low = lows.words;
     let high = highs.words;
     let operand = operands.words;
+    MoveTables {
+        parts: shape.parts,
+        nexts: shape.nexts,
+        low,
+        high,
+        operand,
+    }
+}
+
+fn tables_from(shape: Shape, words: &[u64; 2112], len: usize) -> Tables
+    ensures { λ r. ⌜ r ≡ tablesFrom shape (now (words .entry)) len ⌝ }
+{
+    let found = move_tables_from(shape, words);
+    let settles = row(Asked::Settled, shape, words);
+    let rules = rule_words(words, len);
+    let low = found.low;
+    let high = found.high;
+    let operand = found.operand;
     let settled = settles.words;
     let holds = rules.words;
     Tables {
-        parts: shape.parts,
-        nexts: shape.nexts,
+        parts: found.parts,
+        nexts: found.nexts,
         low,
         high,
         operand,
@@ -62,16 +100,23 @@ fn tables_from(shape: Shape, words: &[u64; 2112], len: usize) -> Tables
     }
 }
 
-// What a call works out of the labels and the rule that it is given.
+// What a step works out of the labels and the rule that it is given.
+pub fn move_tables_of(label: &[u16], rule: Rule) -> MoveTables
+    requires { ⌜ Ready (now label) rule ⌝ }
+    ensures { λ r. ⌜ r ≡ moveTablesIn (tablesOf (now (label .entry)) rule) ⌝ }
+{
+    let shape = shape_of(rule);
+    let nodes = words_of(label, rule, shape);
+    move_tables_from(shape, &nodes.words)
+}
+
+// What the other calls work out of them.
 pub fn tables_of(label: &[u16], rule: Rule) -> Tables
     requires { ⌜ Ready (now label) rule ⌝ }
     ensures { λ r. ⌜ r ≡ tablesOf (now (label .entry)) rule ⌝ }
 {
     let len = rule.len;
     let shape = shape_of(rule);
-    let begins = shape.begins;
-    let numbers = shape.numbers;
-    let having = propositions(label);
-    let nodes = node_words(rule, &having.words, &begins, &numbers);
+    let nodes = words_of(label, rule, shape);
     tables_from(shape, &nodes.words, len)
 }

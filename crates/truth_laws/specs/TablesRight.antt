@@ -109,9 +109,9 @@ tables-ready T f rule A e few six = subst (λ (r : Rule). Ready (T .label) r) (s
 })
 
 -- the parts of a rule for which they may are few
-pub few-parts : {t : Tables} {label : List ℕ} {rule : Rule} → t ≡ tablesOf label rule → Ready label rule → t .parts ≤ 6
+pub few-parts : {label : List ℕ} {rule : Rule} → Ready label rule → tablesOf label rule .parts ≤ 6
 unfolding tablesOf
-few-parts e ok = subst (λ (t : Tables). t .parts ≤ 6) (sym e) (ok .few)
+few-parts ok = ok .few
 
 -- whatever the table and the rule that the calls accept, the tables worked out are right
 pub tables-right : (T : Plant) (f : Formula) (rule : Rule) → AcceptedTable T → rule ≡ ruleOf f → size f ≤ 32 → parts f ≤ 6 → Below (T .props) f

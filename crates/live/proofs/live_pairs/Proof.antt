@@ -8,22 +8,22 @@ use Rattle.live.proofs.live_pairs.Tie as tie
 leaving-requires : tie.Need-leaving-requires
 leaving-requires c κs =
     let told = c .before .before .before .before .before .before in
-    few-parts (told .tables-of .ensures) (told .before .before .before .before .pre .0)
+    rw (told .tables-of .ensures) (few-parts (told .before .before .before .before .pre .0))
 
 entering-requires : tie.Need-entering-requires
 entering-requires c κs =
     let told = c .before .before .before .before .before .before .before .before in
-    few-parts (told .tables-of .ensures) (told .before .before .before .before .pre .0)
+    rw (told .tables-of .ensures) (few-parts (told .before .before .before .before .pre .0))
 
 valuations-requires : tie.Need-valuations-requires
 valuations-requires c κs =
     let told = c .before .before .before .before .before .before .before .before .before in
-    few-parts (told .tables-of .ensures) (told .before .before .before .before .pre .0)
+    rw (told .tables-of .ensures) (few-parts (told .before .before .before .before .pre .0))
 
 settle-requires : tie.Need-settle-requires
 settle-requires c κs =
     let told = c .before .before .before .before .before .before .before .before .before .before .before .before .before .before .before .before .before in
-    (few-parts (told .tables-of .ensures) (told .before .before .before .before .pre .0), told .before .before .before .before .pre .2)
+    (rw (told .tables-of .ensures) (few-parts (told .before .before .before .before .pre .0)), told .before .before .before .before .pre .2)
 
 returns : tie.Need-returns
 returns c =

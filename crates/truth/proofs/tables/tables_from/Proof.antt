@@ -6,15 +6,9 @@ use Rattle.truth.proofs.tables.tables_from.Tie as tie
 
 returns : tie.Need-returns
 returns c =
-    let last = c .before .before .before .before .before in
-    let settled = last .before in
-    let operand = settled .before in
-    let high = operand .before in
-    let low = high .before in
-    tables-from _ _ _ _ _ _ _ _ (low .row .ensures) (high .row2 .ensures) (operand .row3 .ensures) (settled .row4 .ensures) (last .rule-words .ensures)
+    let holds = c .before .before .before .before .before in
+    let settled = holds .before in
+    tables-from _ _ _ _ _ _ (settled .before .move-tables-from .ensures) (settled .row .ensures) (holds .rule-words .ensures)
 
 pub tables-from-spec : {M : Type 1} → statement M
-tables-from-spec =
-    tie.close (tie.spec
-    (λ c κs. search needs) (λ c κs. search needs) (λ c κs. search needs) (λ c κs. search needs) (λ c κs. search needs)
-    returns)
+tables-from-spec = tie.close (tie.spec (λ c κs. search needs) (λ c κs. search needs) (λ c κs. search needs) returns)
