@@ -9,7 +9,7 @@ use Rattle.answers.specs.declared.Outcome.the-variants.{Accepted}
 use Rattle.plant.specs.declared.Plant.{Plant}
 use Rattle.plant.specs.Table.{plantOf}
 use Rattle.syntax.specs.declared.Rule.{Rule}
-use Rattle.truth.specs.Shape.{partsIn}
+use Rattle.shape.specs.Shape.{partsIn}
 use Rattle.truth.specs.Ready.{Ready}
 use Rattle.truth.specs.Tables.{tablesOf}
 use Rattle.truth.specs.Right.{RightTables}

@@ -22,7 +22,7 @@ use Rattle.plant.specs.declared.Plant.{Plant}
 use Rattle.syntax.specs.declared.Rule.{Rule}
 use Rattle.log.specs.declared.Event.{Event}
 use Rattle.log.specs.Legal.{seenOf, legalOf, legal-exactly}
-use Rattle.truth.specs.Shape.{partsIn}
+use Rattle.shape.specs.Shape.{partsIn}
 use Rattle.checks.specs.Checks.{andThen, unless, inputOutcome, pairsFit}
 use Rattle.checks.specs.Exactly.{fit-is, join-says, chain-accepts, unless-accepts}
 use Rattle.checks.proofs.Input.{Input}

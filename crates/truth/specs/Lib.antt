@@ -1,6 +1,4 @@
 pub mod Columns
-pub mod Ops
-pub mod Shape
 pub mod Nodes
 pub mod Turns
 pub mod Whole

@@ -12,7 +12,7 @@ use Rattle.syntax.specs.declared.Node.{Node}
 use Rattle.words.specs.Word.{onlyOf}
 use Rattle.words.specs.Below.{listBelow, wordsBelow}
 use Rattle.labels.specs.Labels.{havingOf}
-use Rattle.truth.specs.Ops.{opAt}
+use Rattle.shape.specs.Ops.{opAt}
 
 unfoldable pub havings : List ℕ → List ℕ
 havings label = listBelow 8 (havingOf label)

@@ -3,7 +3,7 @@ use Prim.Native.Nat.{ℕ, _≤_}
 use mathlib.Core.List.{List}
 use lib.ListN.{length}
 use Rattle.syntax.specs.declared.Rule.{Rule}
-use Rattle.truth.specs.Shape.{partsIn}
+use Rattle.shape.specs.Shape.{partsIn}
 
 pub record Ready (label : List ℕ) (rule : Rule) : Type 0 where
   pub labels : length label ≤ 64

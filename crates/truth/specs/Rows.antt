@@ -8,7 +8,7 @@ use Rattle.syntax.specs.declared.Op.{Op}
 use Rattle.syntax.specs.declared.Op.the-variants.{False, True, Prop, Not, Next, Finally, Globally, Until, Release, And, Or, Implies}
 use Rattle.syntax.specs.declared.Node.{Node}
 use Rattle.words.specs.Below.{listBelow}
-use Rattle.truth.specs.Ops.{opAt, isStep}
+use Rattle.shape.specs.Ops.{opAt, isStep}
 use Rattle.truth.specs.Nodes.{ownOf, wordAt}
 use Rattle.truth.specs.declared.rows.Asked.{Asked}
 use Rattle.truth.specs.declared.rows.Asked.the-variants.{Low, High, Operand, Settled}

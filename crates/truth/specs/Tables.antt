@@ -1,23 +1,15 @@
 -- All that moves go by, of labels and a rule.
 use Prim.Native.Nat.{ℕ, _*_}
-use mathlib.Core.Path.{_≡_}
 use mathlib.Core.List.{List}
 use Rattle.syntax.specs.declared.Rule.{Rule}
-use Rattle.truth.specs.Shape.{beginsOf, numbersOf, kindsOf, nextsIn, partsIn, orderIn}
+use Rattle.shape.specs.Shape.{beginsOf, numbersOf, kindsOf, nextsIn, partsIn, orderIn}
 use Rattle.truth.specs.Nodes.{havings, nodesAfter, holdsOf}
 use Rattle.truth.specs.Rows.{rowsFrom}
 use Rattle.truth.specs.declared.rows.Asked.{Asked}
 use Rattle.truth.specs.declared.rows.Asked.the-variants.{Low, High, Operand, Settled}
-use Rattle.truth.specs.declared.shape.Shape.{Shape}
+use Rattle.shape.specs.declared.Shape.{Shape}
 use Rattle.truth.specs.declared.tables.MoveTables.{MoveTables}
 use Rattle.truth.specs.declared.tables.Tables.{Tables}
-
--- that s is a rule's shape
-abbrev pub Shaped : Rule → Shape → Type 0
-Shaped rule s =
-    (s .begins ≡ beginsOf (rule .nodes) (rule .len)) × (s .parts ≡ partsIn rule) × (s .order ≡ orderIn rule)
-    × (s .kinds .nodes ≡ kindsOf (rule .nodes) (orderIn rule)) × (s .numbers ≡ numbersOf (orderIn rule) (partsIn rule))
-    × (s .nexts ≡ nextsIn (kindsOf (rule .nodes) (orderIn rule)) (partsIn rule))
 
 -- the words of all places of a rule
 unfoldable pub wordsIn : List ℕ → Rule → List ℕ

@@ -1,27 +1,14 @@
--- The whole values that `shape_of` and `tables_of` return, from what their calls ensure.
+-- The whole values that `tables_of` and `move_tables_of` return, from what their calls ensure.
 use Prim.Native.Nat.{ℕ}
 use mathlib.Core.Path.{_≡_, ap}
 use mathlib.Core.List.{List}
-use lib.ListN.{getD}
-use Rattle.syntax.specs.declared.Node.{Node}
 use Rattle.syntax.specs.declared.Rule.{Rule}
-use Rattle.truth.specs.declared.shape.Shape.{Shape}
+use Rattle.shape.specs.declared.Shape.{Shape}
+use Rattle.shape.specs.Shape.{Shaped}
 use Rattle.truth.specs.declared.tables.MoveTables.{MoveTables}
 use Rattle.truth.specs.declared.rows.Asked.the-variants.{Low, High, Operand, Settled}
-use Rattle.truth.specs.Shape.{beginsOf, countsOf, orderOf, numbersOf, kindsOf, nextsIn, partsIn, orderIn}
 use Rattle.truth.specs.Nodes.{holdsOf}
-use Rattle.truth.specs.Tables.{Shaped, wordsIn, wordsBy, rowsIn, rowsBy, moveTablesFrom, moveTablesIn, tablesFrom, tablesOf}
-
-pub shape-whole :
-    (rule : Rule) (begins counts order : List ℕ) (kinds : List Node) (numbers : List ℕ) (nexts : ℕ) →
-    begins ≡ beginsOf (rule .nodes) (rule .len) → counts ≡ countsOf (rule .nodes) (rule .len) →
-    order ≡ orderOf (rule .nodes) begins counts (rule .len) → kinds ≡ kindsOf (rule .nodes) order →
-    numbers ≡ numbersOf order (getD counts (rule .len) 0) → nexts ≡ nextsIn kinds (getD counts (rule .len) 0) →
-    (begins ≡ beginsOf (rule .nodes) (rule .len)) × (getD counts (rule .len) 0 ≡ partsIn rule) × (order ≡ orderIn rule)
-    × (kinds ≡ kindsOf (rule .nodes) (orderIn rule)) × (numbers ≡ numbersOf (orderIn rule) (partsIn rule))
-    × (nexts ≡ nextsIn (kindsOf (rule .nodes) (orderIn rule)) (partsIn rule))
-shape-whole rule begins counts order kinds numbers nexts b c o k n x =
-    (b, rw c, rw (o, b, c), rw (k, o, b, c), rw (n, o, b, c), rw (x, k, o, b, c))
+use Rattle.truth.specs.Tables.{wordsIn, wordsBy, rowsIn, rowsBy, moveTablesFrom, moveTablesIn, tablesFrom, tablesOf}
 
 pub move-tables-from :
     (shape : Shape) (words low high operand : List ℕ) → low ≡ rowsBy Low shape words → high ≡ rowsBy High shape words →

@@ -1,6 +1,4 @@
 // The truth of a rule's nodes, a word of states for each valuation, and the tables of its temporal parts that moves go by.
 pub mod nodes;
-pub mod ops;
 pub mod rows;
-pub mod shape;
 pub mod tables;

@@ -1,5 +1,5 @@
 // For each place and valuation the states where what ends there holds: word p * 64 + v.
-use crate::shape::entry;
+use shape::entry;
 use syntax::Op;
 use syntax::Rule;
 ghost use mathlib.Core.Path.{_≡_};

@@ -1,8 +1,8 @@
 // The tables of the parts: entry v * 6 + k is a set of states, for part k at the valuation v.
 use crate::nodes::own;
 use crate::nodes::word_at;
-use crate::shape::Kinds;
-use crate::shape::entry;
+use shape::Kinds;
+use shape::entry;
 use syntax::Op;
 ghost use mathlib.Core.Path.{_≡_};
 ghost use Prim.Native.Nat.{_<_};
@@ -59,7 +59,7 @@ fn high(op: Op, x: u64, y: u64, own: u64) -> u64
 fn operand(op: Op, y: u64) -> u64
     ensures { λ r. ⌜ r ≡ operandOf op y ⌝ }
 {
-    words::choose(crate::ops::is_next(op), y, 0xffff_ffff_ffff_ffff)
+    words::choose(shape::ops::is_next(op), y, 0xffff_ffff_ffff_ffff)
 }
 
 // An until that is true is settled where its right side holds, a release that is false where it does not.

@@ -7,7 +7,7 @@ use native.Mathlib.Omega.{arith}
 use lib.ListN.{length, getD}
 use Rattle.syntax.specs.declared.Op.{Op}
 use Rattle.theory.specs.Each.{Each, each-append, each-at, each-imp}
-use Rattle.truth.specs.Ops.{isPart}
+use Rattle.shape.specs.Ops.{isPart}
 use Rattle.truth_laws.specs.Tree.{Tree, leaf, one, two, nodesIn, own, placed}
 
 -- from lo on, below hi

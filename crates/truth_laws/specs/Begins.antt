@@ -12,8 +12,8 @@ use lib.Seq.{getD-set-same, getD-set-other}
 use Rattle.syntax.specs.declared.Op.{Op}
 use Rattle.syntax.specs.declared.Node.{Node}
 use Rattle.syntax.specs.Postfix.{sides}
-use Rattle.truth.specs.Ops.{opAt}
-use Rattle.truth.specs.Shape.{beginOf, beginsOf}
+use Rattle.shape.specs.Ops.{opAt}
+use Rattle.shape.specs.Shape.{beginOf, beginsOf}
 use Rattle.truth_laws.specs.Grows.{stays, zeros}
 use Rattle.truth_laws.specs.Tree.{Tree, leaf, one, two, nodesIn, Stands}
 

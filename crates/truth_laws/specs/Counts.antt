@@ -10,8 +10,8 @@ use Rattle.syntax.specs.declared.Op.{Op}
 use Rattle.syntax.specs.declared.Node.{Node}
 use Rattle.words.specs.Word.{digit}
 use Rattle.words.specs.Below.{countBelow}
-use Rattle.truth.specs.Ops.{opAt, isPart}
-use Rattle.truth.specs.Shape.{partsBefore, countsOf}
+use Rattle.shape.specs.Ops.{opAt, isPart}
+use Rattle.shape.specs.Shape.{partsBefore, countsOf}
 use Rattle.truth_laws.specs.Tree.{Tree, leaf, one, two, nodesIn, countIn, Stands}
 
 module _ (nodes : List Node) where

@@ -22,8 +22,8 @@ use Rattle.theory.specs.Each.{Numbered, numbered-append}
 use Rattle.theory.specs.Parts.{length-table}
 use Rattle.model.specs.Values.{Tells, wholly}
 use Rattle.model.specs.Tables.{isNext}
-use Rattle.truth.specs.Ops.{opAt, isPart, isStep}
-use Rattle.truth.specs.Shape.{beginsOf, kindsOf, orderIn}
+use Rattle.shape.specs.Ops.{opAt, isPart, isStep}
+use Rattle.shape.specs.Shape.{beginsOf, kindsOf, orderIn}
 use Rattle.truth.specs.Nodes.{ownOf, wordAt}
 use Rattle.truth.specs.declared.rows.Asked.{Asked}
 use Rattle.truth.specs.Rows.{toldOf, partAt, rowAt, rowsFrom}

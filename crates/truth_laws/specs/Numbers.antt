@@ -18,8 +18,8 @@ use Rattle.words.specs.Folds.{first-found, any-found}
 use Rattle.words.specs.Lists.{list-at}
 use Rattle.words.specs.Truth.{not-so}
 use Rattle.theory.specs.Each.{Numbered, numbered-of}
-use Rattle.truth.specs.Ops.{opAt}
-use Rattle.truth.specs.Shape.{partsBefore, orderOf, numberIn, numbersOf, kindsAfter, kindsOf, partsIn, orderIn}
+use Rattle.shape.specs.Ops.{opAt}
+use Rattle.shape.specs.Shape.{partsBefore, orderOf, numberIn, numbersOf, kindsAfter, kindsOf, partsIn, orderIn}
 use Rattle.truth_laws.specs.Counts.{counts-at, counts-tree}
 use Rattle.truth_laws.specs.Order.{Laid, order-tree}
 use Rattle.truth_laws.specs.Apart.{apart-at, placed-apart, placed-below}

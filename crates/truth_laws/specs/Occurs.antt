@@ -9,8 +9,8 @@ use Rattle.syntax.specs.declared.Op.{Op}
 use Rattle.syntax.specs.declared.Rule.{Rule}
 use Rattle.syntax.specs.Value.{ruleOf}
 use Rattle.theory.specs.Each.{Numbered, numbered-append}
-use Rattle.truth.specs.Ops.{opAt, isPart}
-use Rattle.truth.specs.Shape.{beginsOf}
+use Rattle.shape.specs.Ops.{opAt, isPart}
+use Rattle.shape.specs.Shape.{beginsOf}
 use Rattle.truth_laws.specs.Begins.{begins-tree}
 use Rattle.truth_laws.specs.Tree.{Tree, leaf, one, two, treeOf, nodesIn, own, placed, Stands, nodes-tree, count-tree, length-placed}
 use Rattle.truth_laws.specs.Stands.{rule-stands}

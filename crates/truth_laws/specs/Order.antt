@@ -13,8 +13,8 @@ use Rattle.syntax.specs.declared.Op.{Op}
 use Rattle.syntax.specs.declared.Node.{Node}
 use Rattle.words.specs.Word.{digit}
 use Rattle.words.specs.Lists.{list-at}
-use Rattle.truth.specs.Ops.{opAt, isPart}
-use Rattle.truth.specs.Shape.{beginsOf, partsBefore, countsOf, insertedOf, orderedOf, orderOf}
+use Rattle.shape.specs.Ops.{opAt, isPart}
+use Rattle.shape.specs.Shape.{beginsOf, partsBefore, countsOf, insertedOf, orderedOf, orderOf}
 use Rattle.truth_laws.specs.Begins.{begins-tree}
 use Rattle.truth_laws.specs.Counts.{counts-at, counts-tree}
 use Rattle.truth_laws.specs.Tree.{Tree, leaf, one, two, nodesIn, countIn, own, placed, Stands, length-placed}

@@ -20,8 +20,8 @@ use Rattle.words.specs.Lists.{list-at, length-list}
 use Rattle.words.specs.Unions.{wordOf-lt}
 use Rattle.labels.specs.Labels.{havingOf}
 use Rattle.model.specs.Values.{Shows, wholly, shows-never, shows-always, shows-prop, shows-neg, shows-next, shows-finally, shows-globally, shows-until, shows-release, shows-and, shows-or, shows-implies}
-use Rattle.truth.specs.Ops.{opAt, isPart}
-use Rattle.truth.specs.Shape.{beginsOf, numbersOf, partsIn, orderIn}
+use Rattle.shape.specs.Ops.{opAt, isPart}
+use Rattle.shape.specs.Shape.{beginsOf, numbersOf, partsIn, orderIn}
 use Rattle.truth.specs.Nodes.{havings, ownOf, madeOf, wordAt}
 use Rattle.truth.specs.Tables.{wordsIn}
 use Rattle.truth_laws.specs.Begins.{begins-before}

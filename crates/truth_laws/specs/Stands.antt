@@ -14,7 +14,7 @@ use Rattle.syntax.specs.Postfix.{postfix, sides}
 use Rattle.syntax.specs.Value.{blank, nodesOf, ruleOf}
 use Rattle.syntax.proofs.Values.{length-postfix}
 use Rattle.theory.specs.Each.{Numbered, numbered-append, numbered-of}
-use Rattle.truth.specs.Ops.{opAt, isPart}
+use Rattle.shape.specs.Ops.{opAt, isPart}
 use Rattle.truth_laws.specs.Tree.{leaf, one, two, treeOf, nodesIn, Stands, nodes-tree}
 
 -- the operator o is node k

@@ -24,9 +24,9 @@ use Rattle.theory.specs.Each.{numbered-at}
 use Rattle.theory.specs.Parts.{partOf, length-table}
 use Rattle.model.specs.Values.{Shows}
 use Rattle.model.specs.Tables.{Rows, isNext}
-use Rattle.truth.specs.Ops.{opAt, isStep}
+use Rattle.shape.specs.Ops.{opAt, isStep}
 use Rattle.truth.specs.Ready.{Ready}
-use Rattle.truth.specs.Shape.{kindsOf, nextsIn, partsIn, orderIn}
+use Rattle.shape.specs.Shape.{kindsOf, nextsIn, partsIn, orderIn}
 use Rattle.truth.specs.Nodes.{wordAt, holdsOf}
 use Rattle.truth.specs.declared.rows.Asked.{Asked}
 use Rattle.truth.specs.declared.tables.Tables.{Tables}

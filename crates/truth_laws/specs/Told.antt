@@ -17,7 +17,7 @@ use Rattle.theory.specs.Move.{settled}
 use Rattle.model.specs.Values.{Tells, wholly, bit-wholly}
 use Rattle.model.specs.Tables.{unfolds, operandOf}
 use Rattle.model.specs.Unfold.{next-row, next-operand, until-low, until-high, release-low, release-high}
-use Rattle.truth.specs.Ops.{isStep}
+use Rattle.shape.specs.Ops.{isStep}
 use Rattle.truth.specs.declared.rows.Asked.{Asked}
 use Rattle.truth.specs.declared.rows.Asked.the-variants.{Low, High, Operand, Settled}
 use Rattle.truth.specs.Rows.{lowOf, highOf, settledOf, toldOf}

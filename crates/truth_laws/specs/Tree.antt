@@ -11,7 +11,7 @@ use Rattle.syntax.specs.declared.Op.the-variants.{False, True, Prop, Not, Next,
 use Rattle.syntax.specs.declared.Node.{Node}
 use Rattle.words.specs.Word.{digit}
 use Rattle.syntax.specs.Postfix.{sides}
-use Rattle.truth.specs.Ops.{opAt, isPart}
+use Rattle.shape.specs.Ops.{opAt, isPart}
 
 pub data Tree : Type 0 where
   leaf : Op → Tree

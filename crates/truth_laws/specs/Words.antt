@@ -16,7 +16,7 @@ use Rattle.syntax.specs.declared.Op.{Op}
 use Rattle.syntax.specs.declared.Op.the-variants.{False, True, Prop, Not, Next, Finally, Globally, Until, Release, And, Or, Implies}
 use Rattle.syntax.specs.declared.Node.{Node}
 use Rattle.words.specs.Word.{onlyOf}
-use Rattle.truth.specs.Ops.{opAt}
+use Rattle.shape.specs.Ops.{opAt}
 use Rattle.truth.specs.Nodes.{ownOf, madeOf, wordAt, nodesAfter}
 use Rattle.truth_laws.specs.Grows.{stays, zeros}
 

@@ -1,0 +1,4 @@
+pub mod Ops
+pub mod Shape
+pub mod Turns
+pub mod Whole
