@@ -3,8 +3,10 @@ use mathlib.Core.Path.{_≡_, refl, ap, ap₂, sym, _∙_}
 use mathlib.Core.List.{List, [], _++_, append-assoc, append-nil, map}
 use Prim.Native.Nat.{ℕ, zero, suc, _+_, _-_, _≤_}
 use native.Mathlib.Omega.{arith}
+use native.Mathlib.Numerals.{unary-clauses}
 use native.Mathlib.Nat.{zero-add, sub-zero, suc-sub-suc}
-use lib.ListN.{length-map, length, take, drop, replicate, length-append, length-drop, length-replicate, drop-of-length-le}
+use lib.Dec.{eqb}
+use lib.ListN.{getD, take-append-drop, length-map, length, take, drop, replicate, length-append, length-drop, length-replicate, drop-of-length-le}
 use lib.Seq.{length-take-le, take-at, take-all, take-length, drop-append-add, drop-drop}
 use mir.Val.{Val}
 use denote.Laws.{Is}
@@ -13,7 +15,8 @@ use borrow.Rule.Slice.PartMut.{putMid}
 use Rattle.io.specs.Counts.{Counts}
 use Rattle.io.proofs.Counting.{counts}
 use Rattle.report.specs.declared.Line.{Line}
-use Rattle.report.specs.Line.{Put, lineOf}
+use Rattle.report.specs.Text.{stateText, statesText}
+use Rattle.report.specs.Line.{Put, PutOn, lineOf}
 
 -- the bytes of a line of n bytes with a text put behind them
 abbrev put : ℕ → List ℕ → List ℕ → List ℕ
@@ -38,20 +41,40 @@ as-long n b s room =
     let low : n ≤ length b = omega arith in
     omega (arith, length-append (take n b) (s ++ drop (n + length s) b), length-append s (drop (n + length s) b), length-take-le n b low, length-drop (n + length s) b)
 
+-- the buffer stays as long as it was
+pub put-length : {before now s : List ℕ} {at end : ℕ} → Put before at s now end → length now ≡ length before
+put-length {before} {now} {s} {at} p = ap length (p .bytes) ∙ as-long at before s (p .room)
+
+pub put-counts : {before now s : List ℕ} {at end : ℕ} → Put before at s now end → Counts end now
+put-counts {before} {now} {s} {at} {end} p = counts end now (omega (arith, p .len, p .room, put-length p))
+
 -- one text behind another
-pub puts : {l m r : Line} {s t : List ℕ} → Put l s m → Put m t r → Put l (s ++ t) r
-puts {l} {m} {r} {s} {t} p q = record {
+pub puts : {before now last s t : List ℕ} {at mid end : ℕ} → Put before at s now mid → Put now mid t last end → Put before at (s ++ t) last end
+puts {before} {now} {last} {s} {t} {at} {mid} {end} p q = record {
   len = omega (arith, length-append s t, p .len, q .len);
-  bytes = q .bytes ∙ rw (p .len, p .bytes) (seam (l .len) (l .bytes) s t (p .room));
-  room = omega (arith, length-append s t, p .len, q .room, ap length (p .bytes), as-long (l .len) (l .bytes) s (p .room));
+  bytes = q .bytes ∙ rw (p .len, p .bytes) (seam at before s t (p .room));
+  room = omega (arith, length-append s t, p .len, q .room, put-length p);
 }
+
+-- no state put
+pub put-none : (b : List ℕ) (at : ℕ) (states : List ℕ) → at ≤ length b → Put b at (statesText 0 states) b at
+unfolding statesText
+put-none b at states low =
+    let same : at ≡ at + 0 = omega arith in
+    record { len = same; bytes = sym (take-append-drop at b) ∙ ap (λ (k : ℕ). take at b ++ drop k b) same; room = omega arith }
+
+-- one state more
+pub put-more : {before now last : List ℕ} {at mid end : ℕ} (i : ℕ) (states : List ℕ) →
+    Put before at (statesText i states) now mid → Put now mid (stateText (eqb i 0) (getD states i 0)) last end → Put before at (statesText (i + 1) states) last end
+unfolding statesText
+put-more i states p q = simp unary-clauses (puts p q)
 
 zeros-left : (k n : ℕ) → k ≤ n → drop k (replicate {A = ℕ} n 0) ≡ replicate (n - k) 0
 zeros-left zero n h = ap (λ (k : ℕ). replicate {A = ℕ} k 0) (sym (sub-zero n))
 zeros-left (suc k) (suc n) h = zeros-left k n (omega arith) ∙ ap (λ (k : ℕ). replicate {A = ℕ} k 0) (sym (suc-sub-suc n k))
 
 -- a text put on an empty line
-pub line : {r : Line} {text : List ℕ} → Put (lineOf []) text r → (r ≡ lineOf text) × Counts (r .len) (r .bytes)
+pub line : {r : Line} {text : List ℕ} → PutOn (lineOf []) text r → (r ≡ lineOf text) × Counts (r .len) (r .bytes)
 line {r} {text} p =
     let few : length text ≤ 70 = simp zero-add at (p .room) in
     let zeros : drop (0 + length text) (replicate {A = ℕ} 70 0) ≡ replicate (70 - length text) 0 = simp zero-add (zeros-left (length text) 70 few) in
@@ -62,18 +85,23 @@ line {r} {text} p =
 pub full : (xs : List ℕ) {vs : List Val} → Is (array-field u8-field 70 .row) (map (u8-field .into) xs) vs → length xs ≡ 70
 full xs is = sym (length-map xs (u8-field .into)) ∙ is .1 .0 .1
 
--- where the tail `&mut bytes[at..]` is lent to `bytes::copy` and comes back
-pub copied : (l : Line) (text last : List ℕ) → length (l .bytes) ≡ 70 → l .len + length text ≤ 70 → last ≡ take (length text) text ++ drop (length text) (take (70 - l .len) (drop (l .len) (l .bytes))) →
-    Put l text (record { len = l .len + length text; bytes = putMid (l .len) (70 - l .len) (l .bytes) last })
-copied l text last long room is =
-    let at : ℕ = l .len in
-    let b : List ℕ = l .bytes in
-    let ended : length (drop at b) ≤ 70 - at = omega (arith, length-drop at b) in
-    let tail : take (70 - at) (drop at b) ≡ drop at b = take-all (70 - at) (drop at b) ended in
-    let rest : drop (length text) (take (70 - at) (drop at b)) ≡ drop (at + length text) b = ap (λ (l : List ℕ). drop (length text) l) tail ∙ drop-drop (length text) at b in
+-- the part `xs[k..]`
+pub behind : (k : ℕ) (xs : List ℕ) → take (length xs - k) (drop k xs) ≡ drop k xs
+behind k xs = take-all (length xs - k) (drop k xs) (omega (arith, length-drop k xs))
+
+-- the two parts `xs[..k]` and `xs[k..]` have all of it
+pub both : (k : ℕ) (xs : List ℕ) → k ≤ length xs → length (take k xs) + length (take (length xs - k) (drop k xs)) ≡ length xs
+both k xs low = omega (arith, length-take-le k xs low, ap (λ (l : List ℕ). length l) (behind k xs), length-drop k xs)
+
+-- where the tail `&mut buffer[at..]` is lent to `bytes::copy` and comes back
+pub copied : (b : List ℕ) (at : ℕ) (text last : List ℕ) → at + length text ≤ length b → last ≡ take (length text) text ++ drop (length text) (take (length b - at) (drop at b)) →
+    Put b at text (putMid at (length b - at) b last) (at + length text)
+copied b at text last room is =
+    let ended : length (drop at b) ≤ length b - at = omega (arith, length-drop at b) in
+    let rest : drop (length text) (take (length b - at) (drop at b)) ≡ drop (at + length text) b = ap (λ (l : List ℕ). drop (length text) l) (behind at b) ∙ drop-drop (length text) at b in
     let lent : last ≡ text ++ drop (at + length text) b = is ∙ ap₂ (λ (s t : List ℕ). s ++ t) (take-length text) rest in
     record {
       len = refl;
       bytes = ap (λ (l : List ℕ). take at b ++ l) (ap (λ (l : List ℕ). last ++ l) (drop-of-length-le (drop at b) ended) ∙ append-nil last ∙ lent);
-      room = omega arith;
+      room = room;
     }

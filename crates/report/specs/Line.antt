@@ -1,4 +1,4 @@
--- A text as the line that holds it, and what putting a text behind a line makes of it.
+-- A text as the line that holds it, and what putting a text into a buffer or behind a line makes of it.
 use mathlib.Core.Path.{_≡_}
 use mathlib.Core.List.{List, _++_}
 use Prim.Native.Nat.{ℕ, _+_, _-_, _≤_}
@@ -9,8 +9,12 @@ use Rattle.report.specs.declared.Line.{Line}
 abbrev pub lineOf : List ℕ → Line
 lineOf text = record { len = length text; bytes = text ++ replicate (70 - length text) 0 }
 
--- the text was put behind the line's own, for which there was room; all other bytes stay
-pub record Put (line : Line) (text : List ℕ) (new : Line) : Type 0 where
-  pub len : new .len ≡ line .len + length text
-  pub bytes : new .bytes ≡ take (line .len) (line .bytes) ++ (text ++ drop (line .len + length text) (line .bytes))
-  pub room : line .len + length text ≤ length (line .bytes)
+-- the text was put into a buffer from `at` on, for which there was room, and ends at `end`; all other bytes stay
+pub record Put (before : List ℕ) (at : ℕ) (text now : List ℕ) (end : ℕ) : Type 0 where
+  pub len : end ≡ at + length text
+  pub bytes : now ≡ take at before ++ (text ++ drop (at + length text) before)
+  pub room : at + length text ≤ length before
+
+-- the text was put behind the line's own
+abbrev pub PutOn : Line → List ℕ → Line → Type 0
+PutOn line text new = Put (line .bytes) (line .len) text (new .bytes) (new .len)

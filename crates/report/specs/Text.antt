@@ -1,8 +1,9 @@
 -- The program's lines as texts: lists of bytes.
-use mathlib.Core.Bool.{cond}
+use mathlib.Core.Bool.{Bool, true, false, cond}
 use mathlib.Core.List.{List, [], _∷_, _++_}
 use Prim.Native.Nat.{ℕ, zero, suc, _^_}
-use lib.Dec.{ltb}
+use lib.Dec.{eqb, ltb}
+use lib.ListN.{length, getD}
 use Rattle.io.specs.Digits.{digits}
 use Rattle.answers.specs.Paper.{kindNumber}
 use Rattle.answers.specs.declared.Verdict.{Verdict}
@@ -63,3 +64,43 @@ startText lamp = startWord ++ shownText lamp
 -- `n=N verdict=WORD left=L` and LF
 abbrev pub lampText : ℕ → Lamp → List ℕ
 lampText n lamp = lineKey ++ decimal n ++ shownText lamp
+
+-- `keeps` or `breaks`: the kind of a run
+abbrev pub kindWord : Bool → List ℕ
+kindWord true = 107 ∷ 101 ∷ 101 ∷ 112 ∷ 115 ∷ []
+kindWord false = 98 ∷ 114 ∷ 101 ∷ 97 ∷ 107 ∷ 115 ∷ []
+
+-- ` stem=`, ` loop=`, `,` and ` `
+abbrev pub stemKey : List ℕ
+stemKey = 32 ∷ 115 ∷ 116 ∷ 101 ∷ 109 ∷ 61 ∷ []
+
+abbrev pub loopKey : List ℕ
+loopKey = 32 ∷ 108 ∷ 111 ∷ 111 ∷ 112 ∷ 61 ∷ []
+
+abbrev pub comma : List ℕ
+comma = 44 ∷ []
+
+abbrev pub space : List ℕ
+space = 32 ∷ []
+
+-- a state in decimal, behind a comma unless it is the first
+abbrev pub stateText : Bool → ℕ → List ℕ
+stateText true state = decimal state
+stateText false state = comma ++ decimal state
+
+-- the first k states
+unfoldable pub statesText : ℕ → List ℕ → List ℕ
+statesText zero states = []
+statesText (suc k) states = statesText k states ++ stateText (eqb k 0) (getD states k 0)
+
+-- all states behind a key
+abbrev pub partText : List ℕ → List ℕ → List ℕ
+partText key states = key ++ statesText (length states) states
+
+-- `keeps stem=2,3 loop=1,0` and LF
+abbrev pub runText : Bool → List ℕ → List ℕ → List ℕ
+runText keeps stem loop = kindWord keeps ++ partText stemKey stem ++ partText loopKey loop ++ lf
+
+-- `keeps refused=N place=P` and LF
+abbrev pub noRunText : Bool → Refusal → List ℕ
+noRunText keeps refusal = kindWord keeps ++ space ++ refusedText refusal

@@ -1,13 +1,20 @@
 // The program's lines of output. A line grows text by text: `Put` says what each text makes of it, and `puts` (proofs/Puts.antt) that two of them are one.
+mod run;
+mod text;
+
+use crate::text::put_decimal;
+use crate::text::put_kind;
+use crate::text::put_text;
 use answers::Lamp;
 use answers::Refusal;
 use answers::Verdict;
+pub use run::run_line;
 ghost use mathlib.Core.Path.{_≡_};
 ghost use Prim.Native.Nat.{_+_, _≤_};
 ghost use lib.ListN.{length};
 ghost use Rattle.io.specs.Counts.{Counts};
-ghost use Rattle.report.specs.Text.{decimal, word, shownText, refusedText, startText, lampText};
-ghost use Rattle.report.specs.Line.{Put, lineOf};
+ghost use Rattle.report.specs.Text.{decimal, word, shownText, refusedText, startText, lampText, noRunText};
+ghost use Rattle.report.specs.Line.{PutOn, lineOf};
 
 // A text of `len` bytes, and zeros behind it.
 pub struct Line {
@@ -24,31 +31,26 @@ impl Line {
 
 fn put(line: Line, text: &[u8]) -> Line
     requires { ⌜ line .len + length (now text) ≤ 70 ⌝ }
-    ensures { λ r. ⌜ Put line (now (text .entry)) r ⌝ }
+    ensures { λ r. ⌜ PutOn line (now (text .entry)) r ⌝ }
 {
-    let at = line.len;
     let mut bytes = line.bytes;
-    let tail = &mut bytes[at..];
-    bytes::copy(text, tail);
-    Line {
-        len: at + text.len(),
-        bytes,
-    }
+    let len = put_text(&mut bytes, line.len, text);
+    Line { len, bytes }
 }
 
 fn put_number(line: Line, n: u64) -> Line
     requires { ⌜ line .len + 20 ≤ 70 ⌝ }
-    ensures text { λ r. ⌜ Put line (decimal n) r ⌝ }
+    ensures text { λ r. ⌜ PutOn line (decimal n) r ⌝ }
     ensures bound { λ r. ⌜ r .len ≤ line .len + 20 ⌝ }
 {
-    let mut text = [0u8; 20];
-    let k = io::decimal(n, &mut text);
-    put(line, &text[..k])
+    let mut bytes = line.bytes;
+    let len = put_decimal(&mut bytes, line.len, n);
+    Line { len, bytes }
 }
 
 fn put_word(line: Line, verdict: Verdict) -> Line
     requires { ⌜ line .len + 12 ≤ 70 ⌝ }
-    ensures text { λ r. ⌜ Put line (word verdict) r ⌝ }
+    ensures text { λ r. ⌜ PutOn line (word verdict) r ⌝ }
     ensures bound { λ r. ⌜ r .len ≤ line .len + 12 ⌝ }
 {
     match verdict {
@@ -62,7 +64,7 @@ fn put_word(line: Line, verdict: Verdict) -> Line
 // ` verdict=WORD left=L` and LF: at most 48 bytes.
 fn put_lamp(line: Line, lamp: Lamp) -> Line
     requires { ⌜ line .len + 48 ≤ 70 ⌝ }
-    ensures text { λ r. ⌜ Put line (shownText lamp) r ⌝ }
+    ensures text { λ r. ⌜ PutOn line (shownText lamp) r ⌝ }
 {
     let verdict = lamp.verdict;
     let a = put(line, b" verdict=");
@@ -73,18 +75,25 @@ fn put_lamp(line: Line, lamp: Lamp) -> Line
 }
 
 // `refused=N place=P` and LF: at most 56 bytes.
-pub fn refused_line(refusal: Refusal) -> Line
-    ensures text { λ r. ⌜ r ≡ lineOf (refusedText refusal) ⌝ }
-    ensures room { λ r. ⌜ Counts (r .len) (r .bytes) ⌝ }
+fn put_refusal(line: Line, refusal: Refusal) -> Line
+    requires { ⌜ line .len + 56 ≤ 70 ⌝ }
+    ensures text { λ r. ⌜ PutOn line (refusedText refusal) r ⌝ }
 {
     let kind = refusal.kind;
     let number = kind.number() as u64;
     let place = refusal.place as u64;
-    let a = put(Line::EMPTY, b"refused=");
+    let a = put(line, b"refused=");
     let b = put_number(a, number);
     let c = put(b, b" place=");
     let d = put_number(c, place);
     put(d, b"\n")
+}
+
+pub fn refused_line(refusal: Refusal) -> Line
+    ensures text { λ r. ⌜ r ≡ lineOf (refusedText refusal) ⌝ }
+    ensures room { λ r. ⌜ Counts (r .len) (r .bytes) ⌝ }
+{
+    put_refusal(Line::EMPTY, refusal)
 }
 
 // `start verdict=WORD left=L` and LF: at most 53 bytes.
@@ -104,4 +113,15 @@ pub fn lamp_line(n: usize, lamp: Lamp) -> Line
     let a = put(Line::EMPTY, b"n=");
     let b = put_number(a, n as u64);
     put_lamp(b, lamp)
+}
+
+// `keeps refused=N place=P` and LF: why no run of the kind is shown. At most 63 bytes.
+pub fn no_run_line(keeps: bool, refusal: Refusal) -> Line
+    ensures text { λ r. ⌜ r ≡ lineOf (noRunText keeps refusal) ⌝ }
+    ensures room { λ r. ⌜ Counts (r .len) (r .bytes) ⌝ }
+{
+    let mut bytes = [0u8; 70];
+    let len = put_kind(&mut bytes, 0, keeps);
+    let a = put(Line { len, bytes }, b" ");
+    put_refusal(a, refusal)
 }

@@ -1,8 +1,8 @@
--- `report::put` meets its contract: the tail is lent on to `bytes::copy`, and comes back (`copied`).
+-- `report::put` meets its contract: the line's bytes are the buffer.
 -- Assumes nothing.
 use borrow.Author.Needs.{needs}
 use native.Mathlib.Omega.{arith}
-use Rattle.report.proofs.Puts.{full, copied}
+use Rattle.report.proofs.Puts.{full}
 use Rattle.report.proofs.put.Statement.{statement}
 use Rattle.report.proofs.put.Tie as tie
 
@@ -10,19 +10,11 @@ pub put-spec : {M : Type 1} → statement M
 put-spec =
     tie.close
     (tie.spec
-    -- sub-tail
+    -- slice-aggregate-put-text
     (λ c. search needs)
-    -- part-bytes-start
-    (λ c. search needs)
-    -- part-bytes-end
-    (λ c.
-    let start = c .before .before in
+    -- put-text-requires
+    (λ c κs.
+    let start = c .before .before .before in
     omega (arith, full (start .args .line .bytes) (start .good .0 .1 .1 .1 .0)))
-    -- copy-requires
-    (λ c κs. search needs)
-    -- add-t12
-    (λ c. search needs)
     -- returns
-    (λ c.
-    let start = c .before .before .before .before .before in
-    copied (start .args .line) (start .args .text .now) _ (full (start .args .line .bytes) (start .good .0 .1 .1 .1 .0)) (omega arith) (c .before .copy .ensures .1)))
+    (λ c. search needs))

@@ -1,11 +1,8 @@
--- `report::put_number` meets its contract: the digits are those of `decimal`, and at most 20 (`counted`).
+-- `report::put_number` meets its contract: the line's bytes are the buffer.
 -- Assumes nothing.
 use borrow.Author.Needs.{needs}
-use mathlib.Core.Path.{ap, sym, _∙_}
-use Prim.Native.Nat.{ℕ}
 use native.Mathlib.Omega.{arith}
-use Rattle.io.specs.Digits.{digits}
-use Rattle.report.proofs.Places.{counted}
+use Rattle.report.proofs.Puts.{full}
 use Rattle.report.proofs.put_number.Statement.{statement}
 use Rattle.report.proofs.put_number.Tie as tie
 
@@ -13,22 +10,11 @@ pub put-number-spec : {M : Type 1} → statement M
 put-number-spec =
     tie.close
     (tie.spec
-    -- decimal-requires
-    (λ c κs. search needs)
-    -- array-share-prefix-text
+    -- slice-aggregate-put-decimal
     (λ c. search needs)
-    -- slice-aggregate-put
-    (λ c. search needs)
-    -- put-requires
+    -- put-decimal-requires
     (λ c κs.
-    let made = c .before in
-    let start = made .before .before in
-    omega (arith, counted (start .args .n) (made .decimal .result) (start .fits .n .fits) (made .decimal .ensures .1 .0) .1, made .decimal .ensures .0))
+    let start = c .before .before in
+    omega (arith, full (start .args .line .bytes) (start .good .0 .1 .1 .1 .0)))
     -- returns
-    (λ c.
-    let made = c .before .before in
-    let start = made .before .before in
-    let count = counted (start .args .n) (made .decimal .result) (start .fits .n .fits) (made .decimal .ensures .1 .0) in (
-      rw (made .decimal .ensures .1 .1 ∙ ap (λ (k : ℕ). digits 10 k (start .args .n)) (sym (count .0))) at (c .put .ensures),
-      omega (arith, count .1, c .put .ensures .len, made .decimal .ensures .0),
-    )))
+    (λ c. search needs))
