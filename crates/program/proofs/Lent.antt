@@ -1,22 +1,17 @@
--- The counts of a table that was read are within its arrays: its parts can be lent.
+-- The parts of a table that was read can be lent: its counts are within its arrays.
 use mathlib.Core.Path.{_≡_, sym, subst}
 use mathlib.Core.List.{List}
 use Prim.Native.Nat.{ℕ, _≤_, zero-le}
 use native.Mathlib.Omega.{arith}
 use lib.ListN.{length, getD}
-use Rattle.io.specs.Counts.{Counts}
 use Rattle.io.proofs.Counting.{counts}
 use Rattle.meaning.specs.Run as run
 use Rattle.words.specs.Lists.{length-list}
 use Rattle.plant.specs.declared.Table.{Table}
 use Rattle.plant.specs.declared.TableRead.{TableRead}
 use Rattle.plant.specs.Read.{tableRead, tableOf, noTable}
+use Rattle.program.specs.Lent.{Lent}
 use Rattle.plant.specs.Promises.{Reading, reading, accepted, beyond, misformed}
-
-pub record Lent (t : Table) : Type 0 where
-  pub fair : Counts (t .plant .just) (t .fair)
-  pub label : Counts (t .plant .states) (t .label)
-  pub next : Counts (t .plant .states) (t .next)
 
 filled : (t : run.Plant) → length (t .fair) ≤ 4 → t .states ≤ 64 → Lent (tableOf t)
 filled t few-fair few-states = record {

@@ -7,10 +7,10 @@ use Rattle.program.proofs.follow.Statement.{statement}
 use Rattle.program.proofs.follow.Tie as tie
 
 abbrev Inv-loop : tie.InvT-loop
-Inv-loop plant fair label next rule live text now₀ n₀ n-end now n = (n ≤ n-end) × (n-end * 20 < 2 ^ 64)
+Inv-loop lamps plant fair label next rule live text now₀ n₀ n-end now n = (n ≤ n-end) × (n-end * 20 < 2 ^ 64)
 
 abbrev μ-loop : tie.MeasureT-loop
-μ-loop plant fair label next rule live text now₀ n₀ n-end now n = n-end - n
+μ-loop lamps plant fair label next rule live text now₀ n₀ n-end now n = n-end - n
 
 pub follow-spec : {M : Type 1} → statement M
 follow-spec =
@@ -40,7 +40,7 @@ follow-spec =
     (λ c. search needs)
     -- lamp-line-requires
     (λ c κs. search needs)
-    -- show-requires
+    -- show-if-requires
     (λ c κs. c .lamp-line .ensures .1)
     -- add-n
     (λ c.

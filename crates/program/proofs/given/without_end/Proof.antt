@@ -1,10 +1,10 @@
--- `program::without_end` meets its contract: the length, or one less.
+-- `program::given::without_end` meets its contract: the length, or one less.
 -- Assumes nothing.
 use borrow.Author.Needs.{needs}
 use native.Mathlib.Omega.{arith}
 use Rattle.io.proofs.Counting.{counts}
-use Rattle.program.proofs.without_end.Statement.{statement}
-use Rattle.program.proofs.without_end.Tie as tie
+use Rattle.program.proofs.given.without_end.Statement.{statement}
+use Rattle.program.proofs.given.without_end.Tie as tie
 
 pub without-end-spec : {M : Type 1} → statement M
 without-end-spec =
