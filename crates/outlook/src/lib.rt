@@ -1,0 +1,88 @@
+// How a run of the plant goes on behind the end of a log: one line for the runs that keep the rule, one for those that break it.
+// It is thin as `program` is: the calls decide, and `report` says what a line is.
+use answers::Outcome;
+use files::File;
+use libc::STDOUT_FILENO;
+use monitor::Monitor;
+use plant::Plant;
+use report::Line;
+use syntax::Rule;
+use walk::Lengths;
+use witness::Witnessed;
+ghost use Prim.Native.Nat.{_≤_};
+ghost use lib.ListN.{length};
+
+// The three files of the folder, as `program` reads them; a refusal is the whole output.
+pub fn run() {
+    let mut text = [0u8; File::LOG];
+    let given = program::given::read_given(&mut text);
+    let outcome = given.outcome;
+    let table = given.table;
+    let rule = given.rule;
+    let len = given.len;
+    let plant = table.plant;
+    let just = plant.just;
+    let states = plant.states;
+    let fair = table.fair;
+    let label = table.label;
+    let next = table.next;
+    match outcome {
+        Outcome::Refused(refusal) => program::refuse(refusal),
+        Outcome::Accepted => show_end(
+            b"",
+            plant,
+            &fair[..just],
+            &label[..states],
+            &next[..states],
+            rule,
+            &text[..len],
+        ),
+    }
+}
+
+// The two lines behind the log's last event, each with `name` before it; or the refusal of an event.
+pub fn show_end(
+    name: &[u8],
+    plant: Plant,
+    fair: &[u64],
+    label: &[u16],
+    next: &[u64],
+    rule: Rule,
+    text: &[u8],
+) {
+    let end = program::play(false, plant, fair, label, next, rule, text);
+    let monitor = end.monitor;
+    if end.whole {
+        show_run(name, plant, fair, label, next, rule, monitor, true);
+        show_run(name, plant, fair, label, next, rule, monitor, false);
+    }
+}
+
+fn show_run(
+    name: &[u8],
+    plant: Plant,
+    fair: &[u64],
+    label: &[u16],
+    next: &[u64],
+    rule: Rule,
+    monitor: Monitor,
+    keeps: bool,
+) {
+    let mut states = [0u8; Lengths::ROOM];
+    let answer = witness::witness(plant, fair, label, next, rule, monitor, keeps, &mut states);
+    io::write_all(STDOUT_FILENO, name);
+    match answer {
+        Witnessed::Refused(refusal) => program::show(report::no_run_line(keeps, refusal)),
+        Witnessed::Run(lengths) => write_run(keeps, &states, lengths),
+    }
+}
+
+fn write_run(keeps: bool, states: &[u8], lengths: Lengths)
+    requires { ⌜ (lengths .stem ≤ 4095) × (lengths .turn ≤ 45056) × (49152 ≤ length (now states)) ⌝ }
+{
+    let stem = lengths.stem;
+    let all = stem + lengths.turn;
+    let mut line = [0u8; Line::RUN];
+    let len = report::run_line(&mut line, keeps, &states[..all], stem);
+    io::write_all(STDOUT_FILENO, &line[..len]);
+}
