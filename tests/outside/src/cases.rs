@@ -275,6 +275,20 @@ fn large(dice: &mut Dice) -> Files {
     files(&plant, &rule, &log)
 }
 
+/// A ring of many states with few short cuts, where little holds and fairness sets have one state: a run has far to go.
+fn far(dice: &mut Dice) -> Files {
+    let states = dice.from(40, 64);
+    let short_cuts = *dice.pick(&[0, 3, 10]);
+    let next = (0..states).map(|s| 1u64 << ((s + 1) % states) | if dice.chance(short_cuts) { 1 << dice.below(states) } else { 0 }).collect();
+    let label = (0..states).map(|_| (0..3).fold(0, |l, p| l | (dice.chance(6) as u8) << p)).collect();
+    let fair = (0..dice.from(0, 4)).map(|_| 1 << dice.below(states)).collect();
+    let plant = Plant { props: 3, states, start: 1 << dice.below(states), fair, label, next };
+    let rule = *dice.pick(&["GFp0&GFp1&GFp2", "FGp0|GFp1", "G(p0->F(p1&Fp2))", "(!p0Up1)|GFp2", "G(p0->!p1Up2)", "!GF(p0&Xp1)"]);
+    let length = dice.from(0, 12);
+    let log = log(dice, &plant, length);
+    files(&plant, rule, &log)
+}
+
 fn damaged_plant(dice: &mut Dice) -> Files {
     let states = *dice.pick(&[1, 2, 3, 9, 10, 11, 63, 64]);
     let (mut plant, rule, log) = good(dice, states, 1, 2);
@@ -468,7 +482,7 @@ pub fn forbidden(number: usize) -> Case {
     Case { kind: "forbidden", files, given: None }
 }
 
-const W: &str = "props=2\nstates=3\nstart=0000000000000001\njust=0\nlabel0=00\nnext0=0000000000000003\nlabel1=01\nnext1=0000000000000006\nlabel2=02\nnext2=0000000000000005\n";
+pub const W: &str = "props=2\nstates=3\nstart=0000000000000001\njust=0\nlabel0=00\nnext0=0000000000000003\nlabel1=01\nnext1=0000000000000006\nlabel2=02\nnext2=0000000000000005\n";
 const W_FAIR: &str = "props=2\nstates=3\nstart=0000000000000001\njust=1\nj0=0000000000000005\nlabel0=00\nnext0=0000000000000003\nlabel1=01\nnext1=0000000000000006\nlabel2=02\nnext2=0000000000000005\n";
 const W_DEAD: &str = "props=2\nstates=3\nstart=0000000000000001\njust=0\nlabel0=00\nnext0=0000000000000000\nlabel1=01\nnext1=0000000000000000\nlabel2=02\nnext2=0000000000000000\n";
 
@@ -514,6 +528,7 @@ pub fn case(seed: u64, number: usize) -> Case {
         34..=36 => ("sizes", sizes(&mut dice)),
         37 | 38 => ("odd files", odd_files(&mut dice)),
         _ if number % 200 == 39 => ("large", large(&mut dice)),
+        _ if number % 80 == 79 => ("far", far(&mut dice)),
         _ => ("plain", plain(&mut dice)),
     };
     Case { kind, files, given: None }

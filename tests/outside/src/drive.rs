@@ -1,4 +1,4 @@
-//! Runs the program on each case in a folder of its own and compares what it writes, byte by byte.
+//! Runs the program on each case in a folder of its own and judges what it writes: lamps are compared byte by byte, runs are checked.
 
 use std::fs;
 use std::os::unix::fs::{symlink, PermissionsExt};
@@ -80,8 +80,27 @@ fn difference(wanted: &str, got: &str) -> String {
     format!("line {}: wanted {:?}, got {:?}", line + 1, a.get(line).unwrap_or(&"nothing"), b.get(line).unwrap_or(&"nothing"))
 }
 
+/// What is wrong with what the program wrote for a case, if anything.
+pub type Judge = fn(&Case, &str) -> Option<String>;
+
+/// The lamps: the whole output is known.
+pub fn lamps(case: &Case, got: &str) -> Option<String> {
+    let wanted = output(&case.files);
+    match case.given {
+        Some(given) if given != wanted => Some(format!("our own reading is not the paper's: {}", difference(given, &wanted))),
+        _ if got != wanted => Some(difference(&wanted, got)),
+        _ => None,
+    }
+}
+
+/// How runs go on: each run is checked.
+pub fn runs(case: &Case, got: &str) -> Option<String> {
+    crate::runs::fault(&case.files, got)
+}
+
 pub struct Drive {
     pub program: Vec<String>,
+    pub judge: Judge,
     pub seed: u64,
     pub cases: usize,
     /// Where a case that differs is kept.
@@ -93,17 +112,15 @@ impl Drive {
         let folder = room.join(name);
         fs::create_dir(&folder).unwrap();
         lay_out(case, &folder);
-        let wanted = output(&case.files);
-        let got = match case.given {
-            Some(given) if given != wanted => Err(format!("our own reading is not the paper's: {}", difference(given, &wanted))),
-            _ => run(&self.program, &folder, user).and_then(|got| if got == wanted { Ok(()) } else { Err(difference(&wanted, &got)) }),
-        };
+        let wrote = run(&self.program, &folder, user);
+        let got = wrote.clone().and_then(|wrote| (self.judge)(case, &wrote).map_or(Ok(()), Err));
         if let Err(why) = &got {
             let kept = self.keep.join(name);
             let _ = fs::remove_dir_all(&kept);
             fs::create_dir_all(&kept).unwrap();
             lay_out(case, &kept);
-            fs::write(kept.join("expected.txt"), &wanted).unwrap();
+            fs::write(kept.join("expected.txt"), output(&case.files)).unwrap();
+            fs::write(kept.join("wrote.txt"), wrote.unwrap_or_default()).unwrap();
             return Err(format!("case {} ({}), kept in {}: {}", name, case.kind, kept.display(), why));
         }
         fs::remove_dir_all(&folder).unwrap();
@@ -140,7 +157,7 @@ impl Drive {
         fs::write(&probe, b"x").unwrap();
         fs::set_permissions(&probe, fs::Permissions::from_mode(0)).unwrap();
         let user = if fs::read(&probe).is_ok() { Some(65534) } else { None };
-        let mut drive = Drive { program: self.program.clone(), seed: self.seed, cases: 0, keep: self.keep.clone() };
+        let mut drive = Drive { program: self.program.clone(), judge: self.judge, seed: self.seed, cases: 0, keep: self.keep.clone() };
         if user.is_some() {
             fs::set_permissions(&room.0, fs::Permissions::from_mode(0o755)).unwrap();
             for (k, word) in drive.program.iter_mut().enumerate() {

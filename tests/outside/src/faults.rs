@@ -1,17 +1,21 @@
-//! Mistakes that can be planted in our own reading, to see that the cases would find them in a program.
+//! Mistakes that can be planted in our own reading, to see that the cases would find them in a program: in all of it, and in its lines of runs.
 //! With nothing planted, the rest of this program follows the paper.
 
 use std::cell::Cell;
 
+/// A mistake, its name, and what it is.
+pub type Planted = (Fault, &'static str, &'static str);
+
 macro_rules! faults {
-    ($($name:ident: $what:expr,)*) => {
+    ($($list:ident { $($name:ident: $what:expr,)* })*) => {
         #[derive(Clone, Copy, PartialEq, Eq, Debug)]
-        pub enum Fault { $($name),* }
-        pub const ALL: &[(Fault, &str, &str)] = &[$((Fault::$name, stringify!($name), $what)),*];
+        pub enum Fault { $($($name),*),* }
+        $(pub const $list: &[Planted] = &[$((Fault::$name, stringify!($name), $what)),*];)*
     };
 }
 
 faults! {
+ALL {
     UnseenIsFalse: "a proposition not seen is taken as false",
     NoFairness: "fairness sets are not asked for",
     FairnessOnce: "all fairness sets are taken as one",
@@ -83,6 +87,30 @@ faults! {
     NumbersRestart: "n counts from the last restart",
     WordUnknown: "inconclusive is written unknown",
 }
+OF_RUNS {
+    RunStateChanged: "one state of a loop is another",
+    RunStateBeyond: "a state is not in the table",
+    RunSkipsFairness: "a loop leaves fairness sets out",
+    RunPutsOff: "a loop puts F and U off for ever",
+    RunSwapped: "stem and loop are swapped",
+    RunLoopOpen: "the last state of a loop is left out",
+    RunMovesFirst: "a run goes on from the state after this one",
+    RunFromStart: "a run goes on from the start, not from the last event",
+    RunLongLoop: "a loop is over 45,056 long",
+    RunLongStem: "a stem is over 4,095 long",
+    RunKindLeftOut: "a kind of which there is a run is left out",
+    RunKindInvented: "a run is shown of a kind of which there is none",
+    RunWrongKind: "the runs of the two kinds are exchanged",
+    RunBreaksFirst: "the kind that breaks the rule comes first",
+    RunOneLine: "the second line is not written",
+    RunTwoDigits: "states are written with two digits",
+}
+}
+
+/// Mistakes that only lamps show, and no line of a run.
+pub const OF_LAMPS: &[Fault] = &[
+    Fault::TrueOnNothing, Fault::LeftCountsPairs, Fault::LeftCountsTwice, Fault::LeftOfKeeping, Fault::LogLate, Fault::NumbersRestart, Fault::WordUnknown,
+];
 
 thread_local! { static PLANTED: Cell<Option<Fault>> = Cell::new(None); }
 
@@ -107,5 +135,5 @@ pub fn with<T>(fault: Option<Fault>, work: impl FnOnce() -> T) -> T {
 }
 
 pub fn named(name: &str) -> Option<Fault> {
-    ALL.iter().find(|f| f.1 == name).map(|f| f.0)
+    ALL.iter().chain(OF_RUNS).find(|f| f.1 == name).map(|f| f.0)
 }

@@ -72,7 +72,7 @@ pub fn check(plant: &Plant, rule: &Rule, events: &[Event], runs: impl FnOnce(&mu
             let sets: Vec<Vec<usize>> = monitors[..=k].iter().map(|m| if keeps { m.keeps.clone() } else { m.breaks.clone() }).collect();
             for node in set {
                 let (state, valuation) = graph.pair(*node);
-                if let Some(fault) = witness_fault(plant, rule, state, valuation, &graph.lasso(*node)) {
+                if let Some(fault) = witness_fault(plant, rule, state, valuation, &graph.lasso(*node).expect("a live node")) {
                     return Err(format!("pair {:?} after {} events is not live: {}", (state, valuation), k, fault));
                 }
                 let run = run_to(&graph, &sets, *node);

@@ -1,9 +1,13 @@
 //! Tests of the program from outside: an independent reading of the paper, and cases that compare the two.
 //!
-//!   outside drive SEED CASES KEEP PROGRAM..   runs the program on seeded cases and compares whole outputs
+//!   outside drive SEED CASES KEEP PROGRAM..   runs the program `watch` on seeded cases and compares whole outputs
+//!   outside drive-runs SEED CASES KEEP PROGRAM..   runs the program `runs` on them and checks each run
 //!   outside lassos SEED CASES                 compares our own reading with the meaning of runs
 //!   outside faults SEED CASES                 plants mistakes in our own reading and sees that the cases find each
-//!   outside play [FAULT]                      is the program itself, in this folder, with a mistake if one is named
+//!   outside play [FAULT]                      is the program `watch` itself, in this folder, with a mistake if one is named
+//!   outside play-runs [FAULT]                 is the program `runs` in the same way
+//!   outside lines FOLDER FILE                 checks the lines that `runs` wrote for a folder
+//!   outside marked FILE                       checks the lines of the paper's marked examples
 //!   outside case SEED NUMBER FOLDER           writes a case's files and its expected output into a folder
 //!   outside witness PLANT RULE STATE VALUATION STEM LOOP   checks a witness; STEM and LOOP are states parted by commas, or -
 
@@ -17,6 +21,7 @@ mod meaning;
 mod pairs;
 mod plant;
 mod rule;
+mod runs;
 mod watch;
 
 use std::path::Path;
@@ -33,8 +38,8 @@ fn number(word: &str) -> usize {
     word.parse().unwrap_or_else(|_| panic!("{} is no number", word))
 }
 
-fn drive(words: &[String]) -> Result<String, String> {
-    let drive = drive::Drive { seed: number(&words[0]) as u64, cases: number(&words[1]), keep: words[2].clone().into(), program: words[3..].to_vec() };
+fn drive(judge: drive::Judge, words: &[String]) -> Result<String, String> {
+    let drive = drive::Drive { judge, seed: number(&words[0]) as u64, cases: number(&words[1]), keep: words[2].clone().into(), program: words[3..].to_vec() };
     let agree = drive.all().map_err(|wrong| wrong.join("\n"))?;
     let others = drive.forbidden()?;
     Ok(format!("{}\noutside: {} cases agree", others, agree))
@@ -60,18 +65,18 @@ fn lassos(words: &[String]) -> Result<String, String> {
     Ok(format!("lassos: {} plants and logs; {} pairs shown live and reached by runs, {} runs found in the sets", count, tally.pairs, tally.runs))
 }
 
-/// Each planted mistake must change some output among the cases.
-fn faults(words: &[String]) -> Result<String, String> {
-    let (seed, count) = (number(&words[0]) as u64, number(&words[1]));
-    let mut found = vec![Vec::new(); faults::ALL.len()];
+/// The mistakes of a list that no case finds in what a program writes; those that few cases find are told. Large plants are left out: they take long, and find no more.
+fn missed(list: &[faults::Planted], seed: u64, count: usize, program: fn(&Files) -> String, is_wrong: fn(&Files, &str) -> bool) -> Vec<String> {
+    let mut found = vec![Vec::new(); list.len()];
     for k in 0..count {
         let case = cases::case(seed, k);
         if case.kind == "large" || case.kind == "sizes" && k > 4000 {
             continue;
         }
-        let wanted = watch::output(&case.files);
-        for (i, (fault, _, _)) in faults::ALL.iter().enumerate() {
-            if found[i].len() < 3 && faults::with(Some(*fault), || watch::output(&case.files)) != wanted {
+        let right = program(&case.files);
+        for (i, (fault, _, _)) in list.iter().enumerate().filter(|(i, _)| found[*i].len() < 3).collect::<Vec<_>>() {
+            let other = faults::with(Some(*fault), || program(&case.files));
+            if other != right && is_wrong(&case.files, &other) {
                 found[i].push(k);
             }
         }
@@ -79,33 +84,81 @@ fn faults(words: &[String]) -> Result<String, String> {
             break;
         }
     }
-    let missed: Vec<String> = faults::ALL.iter().zip(&found).filter(|(_, f)| f.is_empty()).map(|(f, _)| format!("{} ({})", f.1, f.2)).collect();
-    for ((_, name, _), at) in faults::ALL.iter().zip(&found) {
+    for ((_, name, _), at) in list.iter().zip(&found) {
         if at.len() < 3 {
             println!("  {} is found by few cases: {:?}", name, at);
         }
     }
-    if missed.is_empty() {
-        return Ok(format!("faults: each of {} planted mistakes is found", faults::ALL.len()));
-    }
-    Err(format!("planted mistakes that no case finds: {}", missed.join(", ")))
+    list.iter().zip(&found).filter(|(_, f)| f.is_empty()).map(|(f, _)| format!("{} ({})", f.1, f.2)).collect()
 }
 
-/// The program, by our own reading, on the files of this folder.
-fn play(words: &[String]) -> Result<String, String> {
-    let file = |name: &str| match std::fs::read(name) {
+/// Each planted mistake must change some output among the cases; and in the lines of runs the check must find each.
+fn faults(words: &[String]) -> Result<String, String> {
+    let (seed, count) = (number(&words[0]) as u64, number(&words[1]));
+    let of_runs: Vec<faults::Planted> = faults::ALL.iter().filter(|f| !faults::OF_LAMPS.contains(&f.0)).chain(faults::OF_RUNS).cloned().collect();
+    let lamps = missed(faults::ALL, seed, count, watch::output, |_, _| true);
+    let runs = missed(&of_runs, seed, count, runs::output, |files, wrote| runs::fault(files, wrote).is_some());
+    if lamps.is_empty() && runs.is_empty() {
+        return Ok(format!("faults: each of {} planted mistakes is found by the lamps, and each of {} by the check of runs", faults::ALL.len(), of_runs.len()));
+    }
+    Err(format!("planted mistakes that no case finds: {}; in runs: {}", lamps.join(", "), runs.join(", ")))
+}
+
+/// What stands in a folder.
+fn files_of(folder: &Path) -> Files {
+    let file = |name: &str| match std::fs::read(folder.join(name)) {
         Ok(bytes) => File::Bytes(bytes),
-        Err(_) if Path::new(name).is_dir() => File::Folder,
-        Err(_) if Path::new(name).exists() => File::Failing,
+        Err(_) if folder.join(name).is_dir() => File::Folder,
+        Err(_) if folder.join(name).exists() => File::Failing,
         Err(_) => File::Missing,
     };
+    Files { plant: file("plant.txt"), rule: file("rule.txt"), log: file("log.txt") }
+}
+
+/// A program, by our own reading, on the files of this folder.
+fn play(program: fn(&Files) -> String, words: &[String]) -> Result<String, String> {
     let fault = match words.first() {
         Some(name) => Some(faults::named(name).ok_or("no such fault")?),
         None => None,
     };
-    let files = Files { plant: file("plant.txt"), rule: file("rule.txt"), log: file("log.txt") };
-    print!("{}", faults::with(fault, || watch::output(&files)));
+    print!("{}", faults::with(fault, || program(&files_of(Path::new(".")))));
     Ok(String::new())
+}
+
+fn lines(words: &[String]) -> Result<String, String> {
+    let wrote = std::fs::read_to_string(&words[1]).map_err(|e| format!("{}: {}", words[1], e))?;
+    match runs::fault(&files_of(Path::new(&words[0])), &wrote) {
+        Some(why) => Err(format!("{}: {}", words[1], why)),
+        None => Ok(format!("runs: the lines of {} are right", words[1])),
+    }
+}
+
+/// Lines `M4 start keeps ..` and `M4 n=2 keeps ..` of the marked examples M1 to M10, and of the program's example, P: each pair of lines by its own log.
+fn marked(words: &[String]) -> Result<String, String> {
+    let text = std::fs::read_to_string(&words[0]).map_err(|e| format!("{}: {}", words[0], e))?;
+    let mut left = text.as_str();
+    let mut count = 0;
+    for (k, (plant, rule, log, _)) in cases::GIVEN.iter().take(11).enumerate() {
+        let name = if k < 10 { format!("M{}", k + 1) } else { String::from("P") };
+        let events = log.len() / 20;
+        let ends: Vec<usize> = (0..=events).filter(|n| *n == 0 || *n == events || name == "P").collect();
+        for end in ends {
+            let at = if end == 0 { String::from("start") } else { format!("n={}", end - 1) };
+            let mut two = String::new();
+            for _ in 0..2 {
+                let (line, rest) = left.split_once('\n').ok_or(format!("{} {}: a line is missing", name, at))?;
+                two += &format!("{}\n", line.strip_prefix(&format!("{} {} ", name, at)).ok_or(format!("{} {}: wanted, got {:?}", name, at, line))?);
+                left = rest;
+            }
+            let file = |t: &str| File::Bytes(t.as_bytes().to_vec());
+            let files = Files { plant: file(plant), rule: file(rule), log: file(&log[..20 * end]) };
+            if let Some(why) = runs::fault(&files, &two) {
+                return Err(format!("{} {}: {}", name, at, why));
+            }
+            count += 2;
+        }
+    }
+    if left.is_empty() { Ok(format!("runs: {} lines of the marked examples are right", count)) } else { Err(format!("there is more: {:?}", left)) }
 }
 
 fn write_case(words: &[String]) -> Result<String, String> {
@@ -138,10 +191,14 @@ fn main() {
     let words: Vec<String> = std::env::args().skip(1).collect();
     let least = |n: usize| words.len() > n;
     let done = match words.first().map(|w| w.as_str()) {
-        Some("drive") if least(4) => drive(&words[1..]),
+        Some("drive") if least(4) => drive(drive::lamps, &words[1..]),
+        Some("drive-runs") if least(4) => drive(drive::runs, &words[1..]),
         Some("lassos") if least(2) => lassos(&words[1..]),
         Some("faults") if least(2) => faults(&words[1..]),
-        Some("play") => play(&words[1..]),
+        Some("play") => play(watch::output, &words[1..]),
+        Some("play-runs") => play(runs::output, &words[1..]),
+        Some("lines") if least(2) => lines(&words[1..]),
+        Some("marked") if least(1) => marked(&words[1..]),
         Some("case") if least(3) => write_case(&words[1..]),
         Some("witness") if least(6) => witness(&words[1..]),
         _ => Err(String::from("see the first lines of tests/outside/src/main.rs")),

@@ -172,11 +172,11 @@ impl Graph {
         live
     }
 
-    /// A fair lasso by which a live node is live: to the nearest node of a free knot, then round by each debt.
-    pub fn lasso(&self, node: usize) -> Lasso {
+    /// A fair lasso by which a node is live, if it is: to the nearest node of a free knot, then round by each debt.
+    pub fn lasso(&self, node: usize) -> Option<Lasso> {
         let (knots, number) = knots(&self.next);
         let free: Vec<bool> = knots.iter().map(|k| self.is_free(k, &number)).collect();
-        let stem = self.path(node, |n| free[number[n]], |_| true).expect("a live node");
+        let stem = self.path(node, |n| free[number[n]], |_| true)?;
         let entry = *stem.last().unwrap();
         let inside = |n: usize| number[n] == number[entry];
         let mut ring = vec![entry];
@@ -190,7 +190,7 @@ impl Graph {
         let back = self.path(out, |n| n == entry, inside).expect("a way back");
         ring.extend(&back[..back.len() - 1]);
         let states = |nodes: &[usize]| nodes.iter().map(|n| n / self.width).collect();
-        Lasso { stem: states(&stem[..stem.len() - 1]), ring: states(&ring) }
+        Some(Lasso { stem: states(&stem[..stem.len() - 1]), ring: states(&ring) })
     }
 
     /// A shortest path from a node to one that is wanted, over nodes that are allowed.
@@ -371,7 +371,7 @@ pub fn run_to(graph: &Graph, sets: &[Vec<usize>], node: usize) -> Lasso {
         walk.push(*set.iter().find(|p| graph.next[**p].contains(&now)).expect("an old pair that leads here"));
     }
     walk.reverse();
-    let mut run = graph.lasso(node);
+    let mut run = graph.lasso(node).expect("a live node");
     let before: Vec<usize> = walk[..walk.len() - 1].iter().map(|n| n / graph.width).collect();
     run.stem = [before, run.stem].concat();
     run

@@ -37,12 +37,12 @@ pub struct Files {
     pub log: File,
 }
 
-fn plant_bytes(file: &File) -> Result<Vec<u8>, Refusal> {
+pub fn plant_bytes(file: &File) -> Result<Vec<u8>, Refusal> {
     let limit = if faults::is(Fault::PlantLimit) { 2347 } else if faults::is(Fault::NoPlantLimit) { 1 << 30 } else { 2348 };
     file.within(limit)
 }
 
-fn rule_bytes(file: &File) -> Result<Vec<u8>, Refusal> {
+pub fn rule_bytes(file: &File) -> Result<Vec<u8>, Refusal> {
     let mut bytes = file.within(513)?;
     if faults::is(Fault::RuleSizeAfterDrop) && bytes.len() == 513 && bytes[512] != b'\n' {
         return Err(Refusal { number: 14, place: 0 });
@@ -56,7 +56,7 @@ fn rule_bytes(file: &File) -> Result<Vec<u8>, Refusal> {
     Ok(bytes)
 }
 
-fn log_bytes(file: &File) -> Result<Vec<u8>, Refusal> {
+pub fn log_bytes(file: &File) -> Result<Vec<u8>, Refusal> {
     if faults::is(Fault::MissingIsEmpty) && *file == File::Missing {
         return Ok(vec![]);
     }
