@@ -281,9 +281,12 @@ fn far(dice: &mut Dice) -> Files {
     let short_cuts = *dice.pick(&[0, 3, 10]);
     let next = (0..states).map(|s| 1u64 << ((s + 1) % states) | if dice.chance(short_cuts) { 1 << dice.below(states) } else { 0 }).collect();
     let label = (0..states).map(|_| (0..3).fold(0, |l, p| l | (dice.chance(6) as u8) << p)).collect();
-    let fair = (0..dice.from(0, 4)).map(|_| 1 << dice.below(states)).collect();
+    // One before the other, so that each is nearly a round further on.
+    let last = dice.from(4, states - 1);
+    let backwards = dice.chance(40);
+    let fair = (0..dice.from(0, 4)).map(|k| 1 << if backwards { last - k } else { dice.below(states) }).collect();
     let plant = Plant { props: 3, states, start: 1 << dice.below(states), fair, label, next };
-    let rule = *dice.pick(&["GFp0&GFp1&GFp2", "FGp0|GFp1", "G(p0->F(p1&Fp2))", "(!p0Up1)|GFp2", "G(p0->!p1Up2)", "!GF(p0&Xp1)"]);
+    let rule = *dice.pick(&["GFp0&GFp1", "FGp0|GFp1", "G(p0->F(p1&Fp2))", "(!p0Up1)|GFp2", "G(p0->!p1Up2)", "!GF(p0&Xp1)"]);
     let length = dice.from(0, 12);
     let log = log(dice, &plant, length);
     files(&plant, rule, &log)
