@@ -1,2 +1,3 @@
+pub mod End
 pub mod Lent
 pub mod Place

@@ -8,7 +8,9 @@ use plant::Table;
 use plant::TableRead;
 use rule::RuleRead;
 use syntax::Rule;
+ghost use mathlib.Core.Path.{_≡_};
 ghost use Rattle.io.specs.Counts.{Counts};
+ghost use Rattle.program.specs.End.{endOf};
 ghost use Rattle.program.specs.Lent.{Lent};
 
 // The table, the rule, and how many bytes of the lent buffer are the log. With a refusal, what was not read is empty.
@@ -82,7 +84,8 @@ fn read_rule(plant: Plant, fair: &[u64], label: &[u16], next: &[u64]) -> RuleRea
 
 // The length of a rule's text, one final LF dropped.
 fn without_end(text: &[u8]) -> usize
-    ensures { λ r. ⌜ Counts r (now (text .entry)) ⌝ }
+    ensures { λ r. ⌜ r ≡ endOf (now (text .entry)) ⌝ }
+    ensures counts { λ r. ⌜ Counts r (now (text .entry)) ⌝ }
 {
     let len = text.len();
     if len == 0 {

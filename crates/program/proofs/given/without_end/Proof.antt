@@ -1,8 +1,11 @@
 -- `program::given::without_end` meets its contract: the length, or one less.
 -- Assumes nothing.
 use borrow.Author.Needs.{needs}
+use borrow.Author.Tests.{eq-eqb, ne-eqb}
+use mathlib.Core.Path.{refl}
 use native.Mathlib.Omega.{arith}
 use Rattle.io.proofs.Counting.{counts}
+use Rattle.program.specs.End.{end-empty}
 use Rattle.program.proofs.given.without_end.Statement.{statement}
 use Rattle.program.proofs.given.without_end.Tie as tie
 
@@ -11,7 +14,7 @@ without-end-spec =
     tie.close
     (tie.spec
     -- returns
-    (λ c. search needs)
+    (λ c. (end-empty (c .before .args .text .now) (c .if1 .taken), search needs))
     -- sub-if2
     (λ c. search needs)
     -- shared-slice-read-if2
@@ -19,6 +22,6 @@ without-end-spec =
     -- sub-result
     (λ c. search needs)
     -- returns-2
-    (λ c. counts _ _ (omega arith))
+    (λ c. (simp (eq-eqb _ _ (c .if2 .taken)) refl, counts _ _ (omega arith)))
     -- returns-3
-    (λ c. counts _ _ (omega arith)))
+    (λ c. (simp (ne-eqb _ _ (c .if2 .left)) refl, counts _ _ (omega arith))))

@@ -1,0 +1,19 @@
+-- Where a rule's text ends: "one final LF dropped".
+use Prim.Native.Nat.{ℕ, _-_}
+use mathlib.Core.Path.{_≡_, refl}
+use mathlib.Core.Bool.{Bool, true, false, cond}
+use mathlib.Core.List.{List}
+use lib.Dec.{eqb}
+use lib.ListN.{length, getD}
+
+-- the length, or one less where the last byte is LF
+abbrev pub endOf : List ℕ → ℕ
+endOf t = cond (eqb (getD t (length t - 1) 0) 10) (length t - 1) (length t)
+
+-- an empty text has no end to drop
+pub end-empty : (t : List ℕ) → length t ≡ 0 → 0 ≡ endOf t
+end-empty t e = rw e (either (eqb (getD t (0 - 1) 0) 10))
+  where
+    either : (b : Bool) → 0 ≡ cond {A = ℕ} b (0 - 1) 0
+    either true = refl
+    either false = refl
