@@ -1,4 +1,5 @@
 pub mod Graph
 pub mod Ranking
+pub mod Joining
 pub mod Scan
 pub mod Search

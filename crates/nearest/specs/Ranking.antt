@@ -1,60 +1,119 @@
 -- A search that goes sweep by sweep: what joins in a sweep gets the sweep's number as its rank.
-use Prim.Native.Nat.{ℕ, _+_, _≤_, _<_}
+use Prim.Native.Nat.{ℕ, _+_, _*_, _/_, _%_, _^_, _≤_, _<_}
 use native.Mathlib.Omega.{arith}
 use native.Mathlib.Decide.{ℕ-discrete}
-use mathlib.Core.Path.{_≡_, refl, sym, ap, _∙_}
+use mathlib.Core.Path.{_≡_, refl, sym, ap, ap₂, _∙_}
 use mathlib.Core.Logic.{_↔_, _⊎_, inl, inr, ⊎-elim, ⊎-map}
-use mathlib.Core.Bool.{Bool, true, false, So, cond}
+use mathlib.Core.Bool.{Bool, true, false, So, _&&_, not, cond, and-false}
 use mathlib.Core.List.{List}
-use lib.Dec.{ltb}
-use lib.ListN.{length, getD, set}
+use lib.Dec.{eqb, ltb}
+use lib.ListN.{length, getD, set, length-set}
 use lib.Seq.{getD-set-same, getD-set-other}
-use borrow.Author.Tests.{lt-ltb, le-ltb, ltb-true}
+use borrow.Author.Tests.{lt-ltb, le-ltb, ltb-true, eq-eqb, ne-eqb, eqb-true}
+use Rattle.meaning.specs.Bit.{bit}
 use Rattle.graphs.specs.Sets.{Nodes, _⊆_, Below}
 use Rattle.graphs.specs.Count.{count-lt, count-pos}
 use Rattle.graphs.specs.Walk.{Edges}
 use Rattle.graphs.specs.Close.{Partly, partly-start, partly-grow}
 use Rattle.graphs.specs.Rank.{Nearest}
 use Rattle.model.specs.Sets.{nodesOf}
-use Rattle.words.specs.Truth.{so-ext, says-dec, not-so, says-itself}
+use Rattle.words.specs.Truth.{so-ext, says-dec, not-so, says-itself, and-says}
+use Rattle.words.specs.Laws.{bit-zero}
+use Rattle.words.specs.Lowest.{lowestOf, othersOf, lowest-lt, bit-lowest, bit-others}
 use Rattle.words.specs.Below.{countBelow}
 
 -- the rank of a node
 abbrev pub rankOf : List ℕ → ℕ → ℕ
 rankOf ranks x = getD ranks x 0
 
--- the known pairs keep their ranks, all others below n have this one
-pub record RankedTo (n : ℕ) (known : List ℕ) (rank : ℕ) (old now : List ℕ) : Type 0 where
-  pub each : (k : ℕ) → getD now k 0 ≡ cond (ltb k n) (cond (nodesOf known k) (getD old k 0) rank) (getD old k 0)
+-- those of P have the rank, all others keep theirs
+pub record Marked (P : ℕ → Bool) (rank : ℕ) (old now : List ℕ) : Type 0 where
+  pub size : length now ≡ length old
+  pub each : (k : ℕ) → k < 4096 → getD now k 0 ≡ cond (P k) rank (getD old k 0)
 
-pub ranked-start : (known : List ℕ) (rank : ℕ) (old : List ℕ) → RankedTo 0 known rank old old
-ranked-start known rank old = record { each = λ k. rw (le-ltb k 0 (omega arith)) }
+-- the pairs of a word at v
+abbrev pub inWord : ℕ → ℕ → ℕ → Bool
+inWord v word k = eqb (k / 64) v && bit word (k % 64)
 
-pub ranked-more : (n : ℕ) (known : List ℕ) (rank : ℕ) (old now : List ℕ) → n < length now → RankedTo n known rank old now
-    → RankedTo (n + 1) known rank old (set now n (cond (nodesOf known n) (getD now n 0) rank))
-ranked-more n known rank old now l h = record {
-  each = λ k. elim (ℕ-discrete k n) [
-    | yes e ↦ rw (e, lt-ltb n (n + 1) (omega arith)) (getD-set-same now n (cond (nodesOf known n) (getD now n 0) rank) 0 l
-        ∙ ap (λ (r : ℕ). cond (nodesOf known n) r rank) (h .each n ∙ rw (le-ltb n n (omega arith))))
-    | no d ↦ getD-set-other now n k (cond (nodesOf known n) (getD now n 0) rank) 0 d ∙ h .each k ∙ rw (same k d)
+-- those of the word are marked, once those of the rest are
+pub record Marking (v word rest rank : ℕ) (old now : List ℕ) : Type 0 where
+  pub size : length now ≡ length old
+  pub each : (k : ℕ) → k < 4096 → cond (inWord v rest k) rank (getD now k 0) ≡ cond (inWord v word k) rank (getD old k 0)
+
+pub marking-start : (v word rank : ℕ) (old : List ℕ) → Marking v word word rank old old
+marking-start v word rank old = record { size = refl; each = λ k l. refl }
+
+-- the lowest of the rest is marked
+pub marking-turn : (v word rest rank : ℕ) (old now : List ℕ) → v < 64 → length old ≡ 4096 → 0 < rest → rest < 2 ^ 64 → Marking v word rest rank old now
+    → Marking v word (othersOf rest) rank old (set now (v * 64 + lowestOf rest) rank)
+marking-turn v word rest rank old now small long some fits m = record {
+  size = length-set now (v * 64 + lowestOf rest) rank ∙ m .size;
+  each = λ k l. elim (ℕ-discrete k (v * 64 + lowestOf rest)) [
+    | yes e ↦ here k l e
+    | no d ↦ rw (bit-others rest some fits (k % 64)) (ap₂ (λ (b : Bool) (r : ℕ). cond b rank r) (other k d) (getD-set-other now (v * 64 + lowestOf rest) k rank 0 d)) ∙ m .each k l
   ];
 }
   where
-    same : (k : ℕ) → (k ≡ n → ⊥) → ltb k n ≡ ltb k (n + 1)
-    same k d = so-ext (ltb k n) (ltb k (n + 1))
-        (λ p. let l = ltb-true k n p in lt-ltb k (n + 1) (omega arith))
-        (λ p. let l = ltb-true k (n + 1) p in lt-ltb k n (omega arith))
+    low : lowestOf rest < 64
+    low = lowest-lt rest some fits
 
-module _ {n : ℕ} {known : List ℕ} {rank : ℕ} {old now : List ℕ} (h : RankedTo n known rank old now) where
-  pub ranked-old : (k : ℕ) → So (nodesOf known k) → getD now k 0 ≡ getD old k 0
-  ranked-old k i = h .each k ∙ rw i (pick (ltb k n))
-    where
-      pick : (b : Bool) → cond b (getD old k 0) (getD old k 0) ≡ getD old k 0
-      pick true = refl
-      pick false = refl
+    either : (b : Bool) → cond b rank rank ≡ rank
+    either true = refl
+    either false = refl
 
-  pub ranked-new : (k : ℕ) → k < n → ¬ So (nodesOf known k) → getD now k 0 ≡ rank
-  ranked-new k l out = h .each k ∙ rw (lt-ltb k n l, not-so _ out)
+    here : (k : ℕ) → k < 4096 → k ≡ v * 64 + lowestOf rest
+        → cond (inWord v (othersOf rest) k) rank (getD (set now (v * 64 + lowestOf rest) rank) k 0) ≡ cond (inWord v word k) rank (getD old k 0)
+    here k l e =
+        let p : k / 64 ≡ v = omega (arith, low) in
+        let q : k % 64 ≡ lowestOf rest = omega (arith, low) in
+        let same : getD (set now (v * 64 + lowestOf rest) rank) k 0 ≡ rank = rw e (getD-set-same now (v * 64 + lowestOf rest) rank 0 (omega (arith, m .size, low))) in
+        let in-rest : So (inWord v rest k) = rw (p, q, eq-eqb v v refl, bit-lowest rest some fits) in
+        rw same (either (inWord v (othersOf rest) k)) ∙ ap (λ (b : Bool). cond b rank (getD now k 0)) (sym in-rest) ∙ m .each k l
+
+    other : (k : ℕ) → (k ≡ v * 64 + lowestOf rest → ⊥) → (eqb (k / 64) v && (bit rest (k % 64) && not (eqb (k % 64) (lowestOf rest)))) ≡ inWord v rest k
+    other k d = so-ext _ _
+        (λ h. let (a, b) = and-says (eqb (k / 64) v) _ .0 h in and-says (eqb (k / 64) v) (bit rest (k % 64)) .1 (a, and-says (bit rest (k % 64)) _ .0 b .0))
+        (λ h. let (a, b) = and-says (eqb (k / 64) v) (bit rest (k % 64)) .0 h in
+        let p = eqb-true (k / 64) v a in
+        and-says (eqb (k / 64) v) _ .1 (a, and-says (bit rest (k % 64)) _ .1 (b, rw (ne-eqb (k % 64) (lowestOf rest) (λ q. d (omega arith))))))
+
+pub marking-end : (v word rest rank : ℕ) (old now : List ℕ) → rest ≡ 0 → Marking v word rest rank old now → Marked (inWord v word) rank old now
+marking-end v word rest rank old now none m = record { size = m .size; each = λ k l. ap (λ (b : Bool). cond b rank (getD now k 0)) (sym (out k)) ∙ m .each k l }
+  where
+    out : (k : ℕ) → inWord v rest k ≡ false
+    out k = rw (none, bit-zero) (and-false (eqb (k / 64) v))
+
+-- the pairs of the first n words
+abbrev pub inFirst : ℕ → List ℕ → ℕ → Bool
+inFirst n joining k = ltb (k / 64) n && nodesOf joining k
+
+pub marked-start : (joining : List ℕ) (rank : ℕ) (old : List ℕ) → Marked (inFirst 0 joining) rank old old
+marked-start joining rank old = record { size = refl; each = λ k l. rw (le-ltb (k / 64) 0 (omega arith)) }
+
+pub marked-more : (n : ℕ) (joining : List ℕ) (rank : ℕ) (old now later : List ℕ) → Marked (inFirst n joining) rank old now
+    → Marked (inWord n (getD joining n 0)) rank now later → Marked (inFirst (n + 1) joining) rank old later
+marked-more n joining rank old now later m w = record {
+  size = w .size ∙ m .size;
+  each = λ k l. w .each k l ∙ rw (m .each k l) (elim (ℕ-discrete (k / 64) n) [
+    | yes e ↦ rw (e, eq-eqb n n refl, le-ltb n n (omega arith), lt-ltb n (n + 1) (omega arith))
+    | no d ↦ rw (ne-eqb (k / 64) n d, same k d)
+  ]);
+}
+  where
+    same : (k : ℕ) → (k / 64 ≡ n → ⊥) → ltb (k / 64) n ≡ ltb (k / 64) (n + 1)
+    same k d = so-ext (ltb (k / 64) n) (ltb (k / 64) (n + 1))
+        (λ p. let l = ltb-true (k / 64) n p in lt-ltb (k / 64) (n + 1) (omega arith))
+        (λ p. let l = ltb-true (k / 64) (n + 1) p in lt-ltb (k / 64) n (omega arith))
+
+pub marked-end : (joining : List ℕ) (rank : ℕ) (old now : List ℕ) → Marked (inFirst 64 joining) rank old now → Marked (nodesOf joining) rank old now
+marked-end joining rank old now m = record { size = m .size; each = λ k l. m .each k l ∙ rw (lt-ltb (k / 64) 64 (omega arith)) }
+
+module _ {P : ℕ → Bool} {rank : ℕ} {old now : List ℕ} (m : Marked P rank old now) where
+  pub marked-old : (k : ℕ) → k < 4096 → ¬ So (P k) → getD now k 0 ≡ getD old k 0
+  marked-old k l out = m .each k l ∙ rw (not-so _ out)
+
+  pub marked-new : (k : ℕ) → k < 4096 → So (P k) → getD now k 0 ≡ rank
+  marked-new k l i = m .each k l ∙ rw i
 
 -- C is what r sweeps have found
 pub record Ranking (edge : Edges) (Z T C : Nodes) (rank : ℕ → ℕ) (r : ℕ) : Type 0 where

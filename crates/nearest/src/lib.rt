@@ -1,45 +1,128 @@
 // The pairs that reach a goal within a set, each with a rank that falls along some move, down to 0 at the goal.
 use leads::halves::both;
 use pairs::Pairs;
-use sweeps::movers::movers;
 use sweeps::reach::meet;
 use sweeps::reach::without;
 ghost use mathlib.Core.Path.{_≡_};
-ghost use mathlib.Core.Bool.{cond};
 ghost use Prim.Native.Nat.{ℕ, _≤_, _<_};
+ghost use lib.Bits.{bitAnd};
 ghost use lib.ListN.{length};
+ghost use Rattle.moves.specs.Back.{preOf};
 ghost use Rattle.graphs.specs.Rank.{Nearest};
 ghost use Rattle.model.specs.Sets.{nodesOf};
 ghost use Rattle.leads.specs.Halves.{fromIn, toIn};
+ghost use Rattle.sweeps.specs.Sweeps.{moversAt, moversOf};
 ghost use Rattle.nearest.specs.Graph.{movesOf, onwardAt, onwardOf};
-ghost use Rattle.nearest.specs.Ranking.{rankOf, RankedTo};
+ghost use Rattle.nearest.specs.Ranking.{rankOf, inWord, Marked};
+ghost use Rattle.nearest.specs.Joining.{heldOf};
 ghost use Rattle.nearest.specs.Scan.{Lower};
 
-// Ranks stand at v * 64 + s for the pair of state s and valuation v, and count for the pairs of `words` alone.
+// Ranks stand at v * 64 + s for the pair of state s and valuation v, and count for the pairs of `words` alone. The pairs of `last`
+// were found last; no contract speaks of them.
 pub struct Near {
     pub words: [u64; 64],
+    pub last: [u64; 64],
     pub ranks: [u16; 4096],
 }
 
-fn choose(test: bool, x: u16, y: u16) -> u16
-    ensures { λ r. ⌜ r ≡ cond test x y ⌝ }
+// The valuations below count at which the set has pairs.
+fn held_at(count: usize, set: &[u64; 64]) -> u64
+    requires { ⌜ count ≤ 64 ⌝ }
+    ensures { λ r. ⌜ r ≡ heldOf count (now (set .entry)) ⌝ }
 {
-    if test { x } else { y }
-}
-
-// The known pairs keep their ranks; all others get this one, which counts for those that join now.
-fn ranked(old: [u16; 4096], known: &[u64; 64], rank: u16) -> [u16; 4096]
-    ensures { λ r. ⌜ RankedTo 4096 (now (known .entry)) rank old r ⌝ }
-{
-    let mut ranks = old;
-    for x in 0..4096 {
-        let now = ranks[x];
-        ranks[x] = choose(words::has(known[x / 64], x % 64), now, rank);
+    let mut held: u64 = 0;
+    for v in 0..count {
+        held |= words::only(set[v] != 0, words::single(v));
     }
-    ranks
+    held
 }
 
-// The pairs of z that reach `goal` within z: sweep by sweep, those with a move into what is found join it.
+// The states of `tried` with a move into the target; none is looked for where that is empty.
+fn moving(next: &[u64], target: u64, tried: u64) -> u64
+    ensures { λ r. ⌜ r ≡ bitAnd tried (preOf (now (next .entry)) target) ⌝ }
+{
+    let mut found: u64 = 0;
+    let mut rest = words::only(target != 0, tried);
+    while rest != 0 {
+        let s = words::lowest(rest);
+        found |= words::only(words::entry(next, s) & target != 0, words::single(s));
+        rest = words::others(rest);
+    }
+    found
+}
+
+// The members of `others` at v with a move into the front. Most words are empty, and a front has pairs at a few valuations only.
+fn joining_at(
+    next: &[u64],
+    leave: &[u64; 1024],
+    enter: &[u64; 1024],
+    count: usize,
+    front: &[u64; 64],
+    held: u64,
+    others: u64,
+    v: usize,
+) -> u64
+    requires { ⌜ (count ≤ 64) × (v < 64) × (held ≡ heldOf count (now front)) ⌝ }
+    ensures { λ r. ⌜ r ≡ moversAt (now (next .entry)) (now (leave .entry)) (now (enter .entry)) count (now (front .entry)) others v ⌝ }
+{
+    if others == 0 {
+        return 0;
+    }
+    let mut found: u64 = 0;
+    let mut rest = held;
+    while rest != 0 {
+        let w = words::lowest(rest);
+        let target = front[w] & both(enter, w, v);
+        let tried = words::without(others, found) & both(leave, v, w);
+        found |= moving(next, target, tried);
+        rest = words::others(rest);
+    }
+    found
+}
+
+// The pairs of `others` with a move into the front.
+fn joining(
+    next: &[u64],
+    leave: &[u64; 1024],
+    enter: &[u64; 1024],
+    count: usize,
+    front: &[u64; 64],
+    others: &[u64; 64],
+) -> Pairs
+    requires { ⌜ count ≤ 64 ⌝ }
+    ensures { λ r. ⌜ r .words ≡ moversOf (now (next .entry)) (now (leave .entry)) (now (enter .entry)) count (now (front .entry)) (now (others .entry)) ⌝ }
+{
+    let held = held_at(count, front);
+    let mut words = [0u64; 64];
+    for v in 0..count {
+        words[v] = joining_at(next, leave, enter, count, front, held, others[v], v);
+    }
+    Pairs { words }
+}
+
+// The pairs of a word at v get the rank.
+fn rank_word(ranks: &mut [u16; 4096], v: usize, word: u64, rank: u16)
+    requires { ⌜ (v < 64) × (length (now ranks) ≡ 4096) ⌝ }
+    ensures { λ _. ⌜ Marked (inWord v word) rank (now (ranks .entry)) (now (ranks .exit)) ⌝ }
+{
+    let mut rest = word;
+    while rest != 0 {
+        ranks[v * 64 + words::lowest(rest)] = rank;
+        rest = words::others(rest);
+    }
+}
+
+// Those that join get the rank; all others keep theirs.
+fn rank_all(ranks: &mut [u16; 4096], joining: &[u64; 64], rank: u16)
+    requires { ⌜ length (now ranks) ≡ 4096 ⌝ }
+    ensures { λ _. ⌜ Marked (nodesOf (now (joining .entry))) rank (now (ranks .entry)) (now (ranks .exit)) ⌝ }
+{
+    for v in 0..64 {
+        rank_word(ranks, v, joining[v], rank);
+    }
+}
+
+// The pairs of z that reach `goal` within z: sweep by sweep, those with a move into what joined last join it.
 pub fn nearest(
     next: &[u64],
     leave: &[u64; 1024],
@@ -53,19 +136,21 @@ pub fn nearest(
         (nodesOf (now (z .entry))) (nodesOf (now (goal .entry))) (nodesOf (r .words)) (rankOf (r .ranks)) ⌝ }
 {
     let mut found = meet(z, goal);
+    let mut front = found;
     let mut ranks = [0u16; 4096];
     let mut rank: u16 = 0;
     loop {
         let others = without(z, &found.words);
-        let more = movers(next, leave, enter, count, &found.words, &others.words);
+        let more = joining(next, leave, enter, count, &front.words, &others.words);
         if more.is_empty() {
             let words = found.words;
-            break Near { words, ranks };
+            let last = front.words;
+            break Near { words, last, ranks };
         }
         rank += 1;
-        let later = ranked(ranks, &found.words, rank);
-        ranks = later;
+        rank_all(&mut ranks, &more.words, rank);
         found = found.join(more);
+        front = more;
     }
 }
 
@@ -112,13 +197,14 @@ pub fn lower(set: &[u64; 64], ranks: &[u16; 4096], limit: u16) -> usize
 {
     let mut found: usize = 0;
     'scan: for w in 0..64 {
-        for t in 0..64 {
-            if words::has(set[w], t) {
-                if ranks[w * 64 + t] < limit {
-                    found = w * 64 + t;
-                    break 'scan;
-                }
+        let mut rest = words::entry(set, w);
+        while rest != 0 {
+            let y = w * 64 + words::lowest(rest);
+            if ranks[y] < limit {
+                found = y;
+                break 'scan;
             }
+            rest = words::others(rest);
         }
     }
     found

@@ -2,12 +2,10 @@
 use Prim.Native.Nat.{ℕ, zero, suc, _<_}
 use native.Mathlib.Omega.{arith}
 use native.Mathlib.Decide.{ℕ-discrete}
-use mathlib.Core.Path.{_≡_, ap, subst}
+use mathlib.Core.Path.{_≡_, ap}
 use mathlib.Core.Logic.{⊎-elim}
 use mathlib.Core.List.{List, [], _∷_, List·Memᴰ, List·Memᴰ·head, List·Memᴰ·tail, List·Memᴰ·not-nil, List·Memᴰ·cases-cons}
 use Rattle.graphs.specs.Sets.{Nodes}
-use Rattle.graphs.specs.Walk.{Edges}
-use Rattle.graphs.specs.Rank.{Nearest}
 use Rattle.model.specs.Sets.{nodesOf}
 use Rattle.sweeps.specs.Rounds.{goalOf}
 
@@ -34,8 +32,3 @@ module _ (fair : List ℕ) (count : ℕ) (settled : List ℕ) where
   unfolding debtsTo
   in-debts zero m = absurd (List·Memᴰ·not-nil m)
   in-debts (suc n) m = ⊎-elim (λ p. (n, omega arith, p)) (λ m. let (k, l, p) = in-debts n m in (k, omega arith, p)) (List·Memᴰ·cases-cons m)
-
-  -- the search for debt k
-  pub debt-near : (k : ℕ) {edge : Edges} {Z C : Nodes} {rank : ℕ → ℕ} {words : List ℕ} → words ≡ goalOf fair count settled k
-      → Nearest 4096 edge Z (nodesOf words) C rank → Nearest 4096 edge Z (debtNodes k) C rank
-  debt-near k {edge} {Z} {C} {rank} is n = subst (λ (w : List ℕ). Nearest 4096 edge Z (nodesOf w) C rank) is n

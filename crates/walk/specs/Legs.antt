@@ -6,18 +6,15 @@ use mathlib.Core.Logic.{_⊎_}
 use mathlib.Core.Bool.{So}
 use mathlib.Core.List.{List, [], _++_, List·Memᴰ}
 use lib.ListN.{length, take, set, length-map, length-take, take-append-drop}
-use Rattle.graphs.specs.Sets.{Nodes, Below, only}
-use Rattle.graphs.specs.Walk.{Edges, last-in, walk-on, Reach, over, walk-widen}
-use Rattle.graphs.specs.Close.{closure-iff, to-iff}
+use Rattle.graphs.specs.Sets.{Nodes, only}
+use Rattle.graphs.specs.Walk.{Edges, last-in, walk-on, Reach, walk-widen}
+use Rattle.graphs.specs.Close.{to-iff}
 use Rattle.graphs.specs.Rank.{Nearest}
-use Rattle.graphs.specs.Sweep.{goes, goes-iff}
-use Rattle.graphs.specs.Search.{fewer}
-use Rattle.graphs.specs.Fair.{Fair}
 use Rattle.graphs.specs.Lasso.{Tour, Ring, Trail, trail-start, trail-on, trail-end}
 use Rattle.words.specs.Over
+use Rattle.walk.specs.Knots.{Knotted}
 use Rattle.walk.specs.Written.{states, Written, written-start, written-on, written-join, written-widen}
 use Rattle.words.specs.Tests.{eq-says}
-use Rattle.words.specs.Below.{countBelow}
 use Rattle.words.specs.Folds.{count-le}
 
 -- the way from x down to y, where the rank is 0, is written, and is no longer than the rank of x
@@ -27,6 +24,12 @@ pub record Led (edge : Edges) (C : Nodes) (rank : ℕ → ℕ) (x y : ℕ) (befo
   pub ends : rank y ≡ 0
   pub written : Written edge C x y before now at to
   pub short : to ≤ at + rank x
+
+-- a way from x to y, a node of g, is written
+pub record Way (edge : Edges) (Z g : Nodes) (x y : ℕ) (before now : List ℕ) (at to : ℕ) : Type 0 where
+  pub written : Written edge Z x y before now at to
+  pub meets : So (g y)
+  pub short : to ≤ at + 4095
 
 -- the loop so far, from q to a, with a node of each debt, k of them
 pub record Going (edge : Edges) (debts : List Nodes) (Z : Nodes) (q a : ℕ) (before now : List ℕ) (to k : ℕ) : Type 0 where
@@ -69,17 +72,26 @@ module _ {edge : Edges} {Z : Nodes} where
   pub near-low : {T C : Nodes} {rank : ℕ → ℕ} → Nearest 4096 edge Z T C rank → (x : ℕ) → So (C x) → rank x ≤ 4095
   near-low {C} n x i = omega (arith, n .ranked .low x i, count-le 4096 C)
 
-  pub going-on : {gs hs : List Nodes} {g C : Nodes} {rank : ℕ → ℕ} {q a b : ℕ} {before now later : List ℕ} {to up k : ℕ} → Going edge gs Z q a before now to k
-      → Nearest 4096 edge Z g C rank → So (C a) → Led edge C rank a b now later to up → ((h : Nodes) → List·Memᴰ h hs → (h ≡ g) ⊎ List·Memᴰ h gs)
-      → Going edge hs Z q b before later up (suc k)
-  unfolding written-join written-widen
-  going-on {a} {b} s n i e new =
-      let w = written-widen (n .ranked .inside) (e .written) in
-      record {
-        written = written-join (s .written) w;
-        trail = trail-on (s .trail) (w .walks) (n .ends b (e .inside) (e .ends)) new;
-        short = omega (arith, s .short, e .short, near-low n a i);
-      }
+  -- where x is of g already, there is nothing to write
+  pub way-here : {g : Nodes} {x : ℕ} (now : List ℕ) (at : ℕ) → So (Z x) → So (g x) → Way edge Z g x x now now at at
+  way-here now at i m = record { written = written-start now at i; meets = m; short = omega arith }
+
+  pub way-led : {g C : Nodes} {rank : ℕ → ℕ} {x y : ℕ} {before now : List ℕ} {at to : ℕ} → Nearest 4096 edge Z g C rank → So (C x) → Led edge C rank x y before now at to
+      → Way edge Z g x y before now at to
+  way-led {x} {y} n i e = record {
+    written = written-widen (n .ranked .inside) (e .written);
+    meets = n .ends y (e .inside) (e .ends);
+    short = omega (arith, e .short, near-low n x i);
+  }
+
+  pub going-on : {gs hs : List Nodes} {g : Nodes} {q a b : ℕ} {before now later : List ℕ} {to up k : ℕ} → Going edge gs Z q a before now to k
+      → Way edge Z g a b now later to up → ((h : Nodes) → List·Memᴰ h hs → (h ≡ g) ⊎ List·Memᴰ h gs) → Going edge hs Z q b before later up (suc k)
+  unfolding written-join
+  going-on s e new = record {
+    written = written-join (s .written) (e .written);
+    trail = trail-on (s .trail) (e .written .walks) (e .meets) new;
+    short = omega (arith, s .short, e .short);
+  }
 
   -- one move more, and back to q
   pub turn-end : {debts : List Nodes} {x q a y b : ℕ} {before now later : List ℕ} {to up k : ℕ} {C : Nodes} {rank : ℕ → ℕ} → Reach edge Z x q
@@ -101,22 +113,10 @@ module _ {edge : Edges} {Z : Nodes} where
         short = omega (arith, s .short, e .short, near-low n y i);
       }
 
-  -- a node of a fair set is in the search for each debt
-  pub reaches : {debts : List Nodes} {g C : Nodes} {rank : ℕ → ℕ} {a : ℕ} → Fair edge debts Z → So (Z a) → List·Memᴰ g debts → Nearest 4096 edge Z g C rank → So (C a)
-  reaches {g} {a} fair i m n = closure-iff (n .closure) a .1 (fair a i .meets g m)
-
-  -- where a move on from a does not lead back to q, less is reached from there
-  pub turn-lower : Below 4096 Z → {debts : List Nodes} {q a y : ℕ} {before now : List ℕ} {to k : ℕ} {C : Nodes} {rank : ℕ → ℕ}
-      → Going edge debts Z q a before now to k → Nearest 4096 edge Z (only q) C rank → So (edge a y) → So (Z y) → ¬ So (C y)
-      → countBelow 4096 (goes 4096 edge Z y) < countBelow 4096 (goes 4096 edge Z q)
-  turn-lower small {q} {y} s n e j out =
-      fewer 4096 small (goes-iff 4096 edge Z small q) (goes-iff 4096 edge Z small y)
-      (goes-iff 4096 edge Z small q y .1 (_, walk-on ((s .written .walks)) e j))
-      (λ b. out (to-iff (n .closure) y .1 (goes-iff 4096 edge Z small y q .0 b)))
-
-  pub turn-on : {debts : List Nodes} {x q a y : ℕ} {before now : List ℕ} {to k : ℕ} → Reach edge Z x q → Going edge debts Z q a before now to k
-      → So (edge a y) → So (Z y) → Reach edge Z x y
-  turn-on r s e j = over r (_, walk-on ((s .written .walks)) e j)
+  -- all that the walk leads to from its end leads back to q
+  pub turn-back : {debts : List Nodes} {x q a y : ℕ} {before now : List ℕ} {to k : ℕ} {C : Nodes} {rank : ℕ → ℕ} → Knotted edge Z x q C rank
+      → Going edge debts Z q a before now to k → So (edge a y) → So (Z y) → So (C y)
+  turn-back {y} h s e j = h .home y (_, walk-on (s .written .walks) e j)
 
   module _ {debts : List Nodes} {x q : ℕ} {C : Nodes} {rank : ℕ → ℕ} {bytes : List ℕ} {turn : ℕ} (t : Turned edge debts Z x q C rank bytes turn) where
     pub turned-in : So (C x)

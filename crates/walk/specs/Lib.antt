@@ -1,5 +1,7 @@
 pub mod Debts
 pub mod Ways
 pub mod Written
+pub mod Before
+pub mod Knots
 pub mod Legs
 pub mod Shows

@@ -59,6 +59,16 @@ nearest-target h n = record {
   ends = λ x e z. h x (n .ranked .inside x e) .0 (n .ends x e z);
 }
 
+-- an empty set has no pair, and another has one
+pub none-in : (set : List ℕ) → emptyOf set ≡ true → (y : ℕ) → y < 4096 → ¬ So (nodesOf set y)
+none-in set none y l i = let w : y / 64 < 64 = omega arith in false≢true (sym (occupied set (y % 64) (y / 64) w i) ∙ none)
+
+pub some-in : (set : List ℕ) → Fit set → emptyOf set ≡ false → (y : ℕ) × Some set y
+some-in set fits some =
+    let (s, v, l, i) = occupant set some in
+    let small = members-below 64 (getD set v 0) .0 (fits v l) s i in
+    (node s v, record { small = omega arith; held = rw (at-node set s v small) i })
+
 -- ---- the set of one pair
 
 unfoldable pub aloneOf : ℕ → List ℕ
@@ -122,15 +132,3 @@ module _ (next : List ℕ) (src dst : ℕ → ℕ → ℕ) (n : ℕ) (few : n �
 
     pub some-open : {y : ℕ} → Some ways y → So (edge x y) × So (nodesOf words y)
     some-open {y} s = onward-nodes next src dst n few words x y low .0 (rw is at (s .held))
-
-    pub none-open : emptyOf ways ≡ true → {y : ℕ} → y < 4096 → So (edge x y) → ¬ So (nodesOf words y)
-    none-open none {y} l e i =
-        let s = open-some l e i in
-        let w : y / 64 < 64 = omega arith in
-        false≢true (sym (occupied ways (y % 64) (y / 64) w (s .held)) ∙ none)
-
-    pub any-open : Fit ways → emptyOf ways ≡ false → (y : ℕ) × Some ways y
-    any-open fits some =
-        let (s, v, l, i) = occupant ways some in
-        let small = members-below 64 (getD ways v 0) .0 (fits v l) s i in
-        (node s v, record { small = omega arith; held = rw (at-node ways s v small) i })

@@ -5,11 +5,12 @@ ghost use mathlib.Core.Path.{_≡_};
 ghost use mathlib.Core.Bool.{So};
 ghost use Prim.Native.Nat.{ℕ, _+_, _≤_, _<_};
 ghost use lib.ListN.{length};
+ghost use Rattle.graphs.specs.Walk.{Meets};
 ghost use Rattle.model.specs.Sets.{nodesOf};
 ghost use Rattle.nearest.specs.Graph.{movesOf};
 ghost use Rattle.nearest.specs.Ranking.{rankOf};
 ghost use Rattle.walk.specs.Ways.{aloneOf, Some, Slope, Downhill};
-ghost use Rattle.walk.specs.Legs.{Led};
+ghost use Rattle.walk.specs.Legs.{Led, Way};
 
 // A pair of the set, which has one.
 pub fn some_pair(set: &[u64; 64]) -> usize
@@ -82,4 +83,29 @@ pub fn write_leg(
         i += 1;
     }
     Leg { end: y, at: i }
+}
+
+// Writes the way from x to a pair of the goal, from place at on. Where x is one, nothing is looked for.
+pub fn write_way(
+    next: &[u64],
+    leave: &[u64; 1024],
+    enter: &[u64; 1024],
+    count: usize,
+    live: &[u64; 64],
+    goal: &[u64; 64],
+    x: usize,
+    out: &mut [u8],
+    at: usize,
+) -> Leg
+    requires { ⌜ (count ≤ 64) × (x < 4096) × (length (now live) ≡ 64) × (at + 4095 ≤ length (now out)) ⌝ }
+    requires inside { ⌜ So (nodesOf (now live) x) ⌝ }
+    requires reaches { ⌜ Meets (movesOf (now next) (now leave) (now enter) count) (nodesOf (now live)) (nodesOf (now goal)) x ⌝ }
+    ensures { λ r. ⌜ Way (movesOf (now (next .entry)) (now (leave .entry)) (now (enter .entry)) count)
+        (nodesOf (now (live .entry))) (nodesOf (now (goal .entry))) x (r .end) (now (out .entry)) (now (out .exit)) at (r .at) ⌝ }
+{
+    if words::has(goal[x / 64], x % 64) {
+        return Leg { end: x, at };
+    }
+    let near = nearest::nearest(next, leave, enter, count, live, goal);
+    write_leg(next, leave, enter, count, near, x, out, at)
 }

@@ -1,5 +1,6 @@
 // A walk of live pairs that comes to a loop in which every debt is met, written by its states: the stem, and then the loop, for which the tail
 // of the lent buffer is lent on.
+mod knots;
 mod legs;
 mod turns;
 

@@ -1,8 +1,9 @@
 // The loop: by way of each debt, and back to where it began.
+use crate::knots::find_knot;
 use crate::legs::Leg;
-use crate::legs::alone;
 use crate::legs::some_pair;
 use crate::legs::write_leg;
+use crate::legs::write_way;
 use nearest::Near;
 use sweeps::rounds::goal;
 ghost use mathlib.Core.Path.{_≡_};
@@ -41,8 +42,7 @@ fn write_legs(
     let mut at = 0;
     for k in 0..fair.len() + parts {
         let debt = goal(fair, count, settled, k);
-        let near = nearest::nearest(next, leave, enter, count, live, &debt.words);
-        let leg = write_leg(next, leave, enter, count, near, a, out, at);
+        let leg = write_way(next, leave, enter, count, live, &debt.words, a, out, at);
         a = leg.end;
         at = leg.at;
     }
@@ -56,8 +56,7 @@ pub struct Turn {
     pub back: Near,
 }
 
-// Writes a loop that is reached from x and meets every debt. Where the way by the debts does not lead back to where it began, it
-// began too early: less is reached from its end.
+// Writes a loop that is reached from x and meets every debt: from where all leads back, by way of each debt, and back.
 pub fn write_loop(
     next: &[u64],
     leave: &[u64; 1024],
@@ -78,37 +77,30 @@ pub fn write_loop(
         (debtsTo (now (fair .entry)) count (now (settled .entry)) (length (now (fair .entry)) + parts)) (nodesOf (now (live .entry)))
         x (r .knot) (nodesOf (r .back .words)) (rankOf (r .back .ranks)) (now (out .exit)) (r .length) ⌝ }
 {
-    let mut q = x;
-    loop {
-        let legs = write_legs(
-            next,
-            leave,
-            enter,
-            count,
-            fair,
-            settled,
-            parts,
-            live,
-            q,
-            out,
-        );
-        let here = alone(q);
-        let back = nearest::nearest(next, leave, enter, count, live, &here.words);
-        let a = legs.end;
-        let at = legs.at;
-        let ways = nearest::onward(next, leave, enter, count, &back.words, a);
-        if ways.is_empty() {
-            let on = nearest::onward(next, leave, enter, count, live, a);
-            q = some_pair(&on.words);
-        } else {
-            out[at] = (a % 64) as u8;
-            let y = some_pair(&ways.words);
-            let last = write_leg(next, leave, enter, count, back, y, out, at + 1);
-            break Turn {
-                knot: q,
-                length: last.at,
-                back,
-            };
-        }
+    let found = find_knot(next, leave, enter, count, live, x);
+    let knot = found.at;
+    let legs = write_legs(
+        next,
+        leave,
+        enter,
+        count,
+        fair,
+        settled,
+        parts,
+        live,
+        knot,
+        out,
+    );
+    let back = found.back;
+    let a = legs.end;
+    let at = legs.at;
+    let ways = nearest::onward(next, leave, enter, count, &back.words, a);
+    let y = some_pair(&ways.words);
+    out[at] = (a % 64) as u8;
+    let last = write_leg(next, leave, enter, count, back, y, out, at + 1);
+    Turn {
+        knot,
+        length: last.at,
+        back,
     }
 }
