@@ -1,9 +1,15 @@
 #!/usr/bin/env python3
 """Writes a seeded case at the limits (64 states, 8 propositions, 4 fairness sets, a rule with 6 temporal operators) to a folder.
 
-usage: bench/draw_case.py FOLDER SEED [MOVES [SEEN [OPERATORS]]]
-MOVES: how many moves are drawn for each state (default 2). SEEN: how many propositions an event shows, on average; with 0 (the default)
-nothing is seen and every state is a starting state, so that as many pairs as can be are held. OPERATORS: those that are drawn (default XFGUR).
+usage: bench/draw_case.py FOLDER SEED [KEY=VALUE..]
+moves=2          how many moves are drawn for each state; or a shape: `chain`, each state to the one behind it and the last to itself; `stays`,
+                 a chain whose states lead to themselves too; `rings`, a chain of rings of four; `ring`, one ring of all
+fair=16          how many states are drawn for each fairness set; or `all`, or `last`: the last state alone
+seen=0           how many propositions an event shows, on average; with 0 nothing is seen and every state is a starting state, so that as many
+                 pairs as can be are held
+operators=XFGUR  the temporal operators that are drawn
+labels=drawn     or `rare`: each proposition at one drawn state alone
+rule=drawn       or `again`, G of Fp0 and .. and Fp4; `nested`, F(p0&F(p1&..Fp5)); `untils`, (..((p0Up1)Up2)..Up6)
 
 The folder gets plant.txt, rule.txt and log.txt (100 lines along a run of the plant), and twin.txt, the same for the C twin: numbers alone,
 the rule as its nodes, operands first.
@@ -13,8 +19,13 @@ import random
 import sys
 
 folder, seed = sys.argv[1], int(sys.argv[2])
-moves, seen, operators = (sys.argv[3:] + ['2', '0', 'XFGUR'][len(sys.argv) - 3:])[:3]
-moves, seen = int(moves), int(seen)
+given = {'moves': '2', 'fair': '16', 'seen': '0', 'operators': 'XFGUR', 'labels': 'drawn', 'rule': 'drawn'}
+for word in sys.argv[3:]:
+    key, value = word.split('=')
+    if key not in given:
+        sys.exit('draw_case: no key ' + key)
+    given[key] = value
+operators, seen = given['operators'], int(given['seen'])
 draw = random.Random(seed)
 STATES, PROPS, FAIR, PARTS, NODES, LINES = 64, 8, 4, 6, 32, 100
 CODES = {'X': 4, 'F': 5, 'G': 6, 'U': 7, 'R': 8, '&': 9, '|': 10, '->': 11}
@@ -66,13 +77,58 @@ def parts_of(rule):
     return sum(CODES['X'] <= code <= CODES['R'] for code, _ in nodes(rule))
 
 
-labels = [draw.randrange(1 << PROPS) for _ in range(STATES)]
-nexts = [some_states(moves) for _ in range(STATES)]
-fairs = [some_states(16) for _ in range(FAIR)]
-start = draw.getrandbits(STATES) | 1 if seen else (1 << STATES) - 1
-rule = tree(30, PARTS)
-while parts_of(rule) != PARTS or len(nodes(rule)) > NODES:
+def moves_from(s):
+    shape = given['moves']
+    last = s == STATES - 1
+    if shape == 'chain':
+        return 1 << s if last else 2 << s
+    if shape == 'stays':
+        return 1 << s if last else 3 << s
+    if shape == 'rings':
+        return 1 << s - 3 | (0 if last else 2 << s) if s % 4 == 3 else 2 << s
+    if shape == 'ring':
+        return 1 if last else 2 << s
+    return some_states(int(shape))
+
+
+def fairness_set():
+    return {'all': (1 << STATES) - 1, 'last': 1 << STATES - 1}.get(given['fair']) or some_states(int(given['fair']))
+
+
+def fold(operator, rules):
+    """The rules joined, the first two first."""
+    joined = rules[0]
+    for rule in rules[1:]:
+        joined = (operator, joined, rule)
+    return joined
+
+
+def rule_of(kind):
+    leaves = ['p%d' % k for k in range(PROPS)]
+    if kind == 'again':
+        return ('G', fold('&', [('F', leaf) for leaf in leaves[:PARTS - 1]]))
+    if kind == 'untils':
+        return fold('U', leaves[:PARTS + 1])
+    if kind == 'nested':
+        rule = ('F', leaves[PARTS - 1])
+        for leaf in reversed(leaves[:PARTS - 1]):
+            rule = ('F', ('&', leaf, rule))
+        return rule
     rule = tree(30, PARTS)
+    while parts_of(rule) != PARTS or len(nodes(rule)) > NODES:
+        rule = tree(30, PARTS)
+    return rule
+
+
+if given['labels'] == 'rare':
+    homes = [draw.randrange(STATES) for _ in range(PROPS)]
+    labels = [sum((homes[p] == s) << p for p in range(PROPS)) for s in range(STATES)]
+else:
+    labels = [draw.randrange(1 << PROPS) for _ in range(STATES)]
+nexts = [moves_from(s) for s in range(STATES)]
+fairs = [fairness_set() for _ in range(FAIR)]
+start = draw.getrandbits(STATES) | 1 if seen else (1 << STATES) - 1
+rule = rule_of(given['rule'])
 sees = [sum((draw.random() < seen / PROPS) << p for p in range(PROPS)) for _ in range(LINES)]
 here = draw.randrange(STATES)
 start |= 1 << here

@@ -1,4 +1,5 @@
-// For the benches: as often as turns.txt says, a table and a rule are prepared, and a log is run; what was found is written as digests.
+// For the benches: as often as turns.txt says, a table and a rule are prepared, a log is run, and witnesses are asked for; what was found
+// is written as digests.
 // No time is measured here: bench/run takes that of whole runs. A file that is refused gives the empty table, rule or log, and so another digest.
 use files::File;
 use libc::STDOUT_FILENO;
@@ -7,6 +8,8 @@ use monitor::Monitor;
 use pairs::Pairs;
 use plant::Plant;
 use syntax::Rule;
+use walk::Lengths;
+use witness::Witnessed;
 ghost use Prim.Native.Nat.{_+_, _≤_, _<_};
 
 fn main() {
@@ -30,15 +33,17 @@ fn with_table(plant: Plant, fair: &[u64], label: &[u16], next: &[u64]) {
     let len = file.len;
     let read = rule::read_rule(plant, fair, label, next, &text[..len]);
     let rule = read.rule;
-    let mut turns = [0u8; 22];
+    let mut turns = [0u8; 47];
     files::read_file(b"turns.txt", &mut turns);
     prepare_often(number(&turns, 9), plant, fair, label, next, rule);
     with_rule(number(&turns, 18), plant, fair, label, next, rule);
+    witness_often(number(&turns, 30), plant, fair, label, next, rule, true);
+    witness_often(number(&turns, 43), plant, fair, label, next, rule, false);
 }
 
-// turns.txt is `prepares=DDD logs=DDD` and LF: three digits from `at` on.
-fn number(text: &[u8; 22], at: usize) -> usize
-    requires { ⌜ at + 3 ≤ 22 ⌝ }
+// turns.txt is `prepares=DDD logs=DDD keeping=DDD breaking=DDD` and LF: three digits from `at` on.
+fn number(text: &[u8; 47], at: usize) -> usize
+    requires { ⌜ at + 3 ≤ 47 ⌝ }
 {
     digit(text[at]) * 100 + digit(text[at + 1]) * 10 + digit(text[at + 2])
 }
@@ -129,6 +134,63 @@ fn digest(set: Pairs) -> u64 {
         total = std::num::wrapping_add_u64(total, set.words[v]);
     }
     total
+}
+
+// Witnesses of the asked kind, for the monitor as it opens.
+fn witness_often(
+    turns: usize,
+    plant: Plant,
+    fair: &[u64],
+    label: &[u16],
+    next: &[u64],
+    rule: Rule,
+    keeps: bool,
+) {
+    let prepared = live::prepare(plant, fair, label, next, rule);
+    let opened = monitor::open(plant, fair, label, next, rule, prepared.live);
+    let monitor = opened.monitor;
+    let mut total: u64 = 0;
+    for n in 0..turns {
+        let run = ask(plant, fair, label, next, rule, monitor, keeps);
+        total = std::num::wrapping_add_u64(total, run);
+    }
+    show_number(total);
+}
+
+// A number for a witness: 0 where there is none.
+fn ask(
+    plant: Plant,
+    fair: &[u64],
+    label: &[u16],
+    next: &[u64],
+    rule: Rule,
+    monitor: Monitor,
+    keeps: bool,
+) -> u64 {
+    let mut buffer = [0u8; Lengths::ROOM];
+    let witnessed = witness::witness(plant, fair, label, next, rule, monitor, keeps, &mut buffer);
+    match witnessed {
+        Witnessed::Refused(_) => 0,
+        Witnessed::Run(lengths) => digest_states(lengths.stem, lengths.turn, &buffer),
+    }
+}
+
+// As many bytes as the stem and the loop have states; the stem's length counts too.
+fn digest_states(stem: usize, turn: usize, bytes: &[u8; Lengths::ROOM]) -> u64 {
+    let written = std::num::wrapping_add_usize(stem, turn);
+    let mut total = stem as u64;
+    for i in 0..Lengths::ROOM {
+        if i == written {
+            break;
+        }
+        total = std::num::wrapping_add_u64(total, total);
+        total = std::num::wrapping_add_u64(total, wide(bytes[i]));
+    }
+    total
+}
+
+fn wide(byte: u8) -> u64 {
+    byte as u64
 }
 
 fn show_number(n: u64) {
