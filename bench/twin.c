@@ -1,6 +1,6 @@
 // prepare, open and step in C, by the same algorithms, for bench/run: what crate `timing` does, on twin.txt in place of the texts.
 // Functions have the names of the proved code, and the larger ones stay calls (NOINLINE), so that no turn of the loop in main can be saved.
-// A step of the twin leaves out the table `settled`, which only prepare has a use for; the proved step makes it too.
+// As in the proved code, a step leaves out the table `settled`, which only prepare has a use for.
 #include <inttypes.h>
 #include <stdio.h>
 #include <string.h>
