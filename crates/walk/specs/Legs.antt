@@ -1,13 +1,14 @@
 -- The stretches of the walk: down the ranks to a debt, by way of each debt, and back to where the loop began.
 use Prim.Native.Nat.{ℕ, suc, _+_, _*_, _%_, _≤_, _<_}
 use native.Mathlib.Omega.{arith}
+use native.Mathlib.Decide.{ℕ-discrete}
 use mathlib.Core.Path.{_≡_, sym, ap, _∙_}
 use mathlib.Core.Logic.{_⊎_}
 use mathlib.Core.Bool.{So}
 use mathlib.Core.List.{List, [], _++_, List·Memᴰ}
 use lib.ListN.{length, take, set, length-map, length-take, take-append-drop}
 use Rattle.graphs.specs.Sets.{Nodes, only}
-use Rattle.graphs.specs.Walk.{Edges, last-in, walk-on, Reach, walk-widen}
+use Rattle.graphs.specs.Walk.{Edges, last-in, walk-on, Reach, over, stay, walk-widen}
 use Rattle.graphs.specs.Close.{to-iff}
 use Rattle.graphs.specs.Rank.{Nearest}
 use Rattle.graphs.specs.Lasso.{Tour, Ring, Trail, trail-start, trail-on, trail-end}
@@ -46,6 +47,11 @@ pub record Turned (edge : Edges) (debts : List Nodes) (Z : Nodes) (x q : ℕ) (C
   pub count : length nodes ≡ to
   pub bytes : take to now ≡ states nodes
   pub short : to ≤ 45056
+
+-- the loop tried from q, to which the nodes of B lead: it is written; or its length is 0, and q leads to a node that does not lead back
+pub record Tried (edge : Edges) (debts : List Nodes) (Z : Nodes) (q : ℕ) (B : Nodes) (k : ℕ) (C : Nodes) (rank : ℕ → ℕ) (now : List ℕ) (to : ℕ) : Type 0 where
+  pub turns : 0 < to → Turned edge debts Z q k C rank now to
+  pub strays : to ≡ 0 → (y : ℕ) × (Reach edge Z q y × ¬ So (B y))
 
 -- a lasso from a node of A is written: its stem, its loop from the byte after it, and the rest stays
 pub record Walked (edge : Edges) (debts : List Nodes) (Z A : Nodes) (before now : List ℕ) (stem turn : ℕ) : Type 0 where
@@ -94,29 +100,48 @@ module _ {edge : Edges} {Z : Nodes} where
   }
 
   -- one move more, and back to q
-  pub turn-end : {debts : List Nodes} {x q a y b : ℕ} {before now later : List ℕ} {to up k : ℕ} {C : Nodes} {rank : ℕ → ℕ} → Reach edge Z x q
+  pub turn-end : {debts : List Nodes} {q a y b : ℕ} {before now later : List ℕ} {to up k : ℕ} {C : Nodes} {rank : ℕ → ℕ} → So (Z q)
       → Going edge debts Z q a before now to k → k ≤ 10 → So (edge a y) → So (C y) → to < length now → Nearest 4096 edge Z (only q) C rank
-      → Led edge C rank y b (set now to (a % 64)) later (to + 1) up → Turned edge debts Z x q C rank later up
+      → Led edge C rank y b (set now to (a % 64)) later (to + 1) up → Tried edge debts Z q C q C rank later up
   unfolding written-start written-on written-join written-widen
-  turn-end {q} {a} {y} {b} {now} {to} {up} {C} {rank} r s few d i l n e =
+  turn-end {q} {a} {y} {b} {now} {to} {up} {C} {rank} h s few d i l n e =
       let p : b ≡ q = eq-says _ _ .0 (n .ends b (e .inside) (e .ends)) in
       let v = written-widen (n .ranked .inside) (rw p at (e .written)) in
       let w = written-join (written-on (written-start now to (going-in s)) d (n .ranked .inside y i) l) v in
       let u = written-join (s .written) w in
       record {
-        nodes = u .nodes;
-        comes = r;
-        near = n;
-        tour = trail-end {ys = w .nodes} (s .trail) (w .walks) (omega arith);
-        count = omega (arith, u .count);
-        bytes = u .bytes;
-        short = omega (arith, s .short, e .short, near-low n y i);
+        turns = λ _. record {
+          nodes = u .nodes;
+          comes = stay h;
+          near = n;
+          tour = trail-end {ys = w .nodes} (s .trail) (w .walks) (omega arith);
+          count = omega (arith, u .count);
+          bytes = u .bytes;
+          short = omega (arith, s .short, e .short, near-low n y i);
+        };
+        strays = λ none. absurd (omega (arith, none, e .written .count));
       }
 
-  -- all that the walk leads to from its end leads back to q
-  pub turn-back : {debts : List Nodes} {x q a y : ℕ} {before now : List ℕ} {to k : ℕ} {C : Nodes} {rank : ℕ → ℕ} → Knotted edge Z x q C rank
-      → Going edge debts Z q a before now to k → So (edge a y) → So (Z y) → So (C y)
-  turn-back {y} h s e j = h .home y (_, walk-on (s .written .walks) e j)
+  -- no move from the end of the walk leads back, and there is one
+  pub turn-stray : {debts : List Nodes} {q a y k c : ℕ} {before now later : List ℕ} {to : ℕ} {B C : Nodes} {rank : ℕ → ℕ} → Going edge debts Z q a before now to c
+      → So (edge a y) → So (Z y) → ¬ So (B y) → Tried edge debts Z q B k C rank later 0
+  turn-stray {y} s d j out = record { turns = λ l. absurd (omega (arith, l)); strays = λ _. (y, ((_, walk-on (s .written .walks) d j), out)) }
+
+  -- from where all leads back it closes, and x leads there
+  pub turn-home : {debts : List Nodes} {x q k : ℕ} {now : List ℕ} {to : ℕ} {B C : Nodes} {rank turning : ℕ → ℕ} → Knotted edge Z x q B rank
+      → Tried edge debts Z q B k C turning now to → Turned edge debts Z x k C turning now to
+  turn-home {to} h t = elim (ℕ-discrete to 0) [
+    | yes none ↦ (let (y, (way, out)) = t .strays none in absurd (out (h .home y way)))
+    | no some ↦ (let u = t .turns (omega (arith, some)) in record {
+      nodes = u .nodes;
+      comes = over (h .comes) (u .comes);
+      near = u .near;
+      tour = u .tour;
+      count = u .count;
+      bytes = u .bytes;
+      short = u .short;
+    })
+  ]
 
   module _ {debts : List Nodes} {x q : ℕ} {C : Nodes} {rank : ℕ → ℕ} {bytes : List ℕ} {turn : ℕ} (t : Turned edge debts Z x q C rank bytes turn) where
     pub turned-in : So (C x)
