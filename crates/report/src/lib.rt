@@ -1,10 +1,10 @@
 // The program's lines of output. A line grows text by text: `Put` says what each text makes of it, and `puts` (proofs/Puts.antt) that two of them are one.
+mod pieces;
 mod run;
-mod text;
 
-use crate::text::put_decimal;
-use crate::text::put_kind;
-use crate::text::put_text;
+use crate::pieces::put_decimal;
+use crate::pieces::put_kind;
+use crate::pieces::put_text;
 use answers::Lamp;
 use answers::Refusal;
 use answers::Verdict;

@@ -1,8 +1,8 @@
 // How a run goes on, as one line. It may have 49,151 states, so it is written into a lent buffer.
 use crate::Line;
-use crate::text::put_decimal;
-use crate::text::put_kind;
-use crate::text::put_text;
+use crate::pieces::put_decimal;
+use crate::pieces::put_kind;
+use crate::pieces::put_text;
 ghost use mathlib.Core.Path.{_≡_};
 ghost use Prim.Native.Nat.{_+_, _*_, _≤_};
 ghost use lib.ListN.{length, take, drop};

@@ -1,4 +1,4 @@
--- `report::text::put_decimal` meets its contract: the digits are those of `decimal`, and at most 20 (`counted`).
+-- `report::pieces::put_decimal` meets its contract: the digits are those of `decimal`, and at most 20 (`counted`).
 -- Assumes nothing.
 use borrow.Author.Needs.{needs}
 use mathlib.Core.Path.{ap, sym, _∙_}
@@ -6,8 +6,8 @@ use Prim.Native.Nat.{ℕ}
 use native.Mathlib.Omega.{arith}
 use Rattle.io.specs.Digits.{digits}
 use Rattle.report.proofs.Places.{counted}
-use Rattle.report.proofs.text.put_decimal.Statement.{statement}
-use Rattle.report.proofs.text.put_decimal.Tie as tie
+use Rattle.report.proofs.pieces.put_decimal.Statement.{statement}
+use Rattle.report.proofs.pieces.put_decimal.Tie as tie
 
 pub put-decimal-spec : {M : Type 1} → statement M
 put-decimal-spec =

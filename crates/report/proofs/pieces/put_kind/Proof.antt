@@ -1,9 +1,9 @@
--- `report::text::put_kind` meets its contract: each branch has its own word.
+-- `report::pieces::put_kind` meets its contract: each branch has its own word.
 -- Assumes nothing.
 use borrow.Author.Needs.{needs}
 use native.Mathlib.Omega.{arith}
-use Rattle.report.proofs.text.put_kind.Statement.{statement}
-use Rattle.report.proofs.text.put_kind.Tie as tie
+use Rattle.report.proofs.pieces.put_kind.Statement.{statement}
+use Rattle.report.proofs.pieces.put_kind.Tie as tie
 
 pub put-kind-spec : {M : Type 1} → statement M
 put-kind-spec =
