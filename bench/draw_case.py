@@ -3,13 +3,14 @@
 
 usage: bench/draw_case.py FOLDER SEED [KEY=VALUE..]
 moves=2          how many moves are drawn for each state; or a shape: `chain`, each state to the one behind it and the last to itself; `stays`,
-                 a chain whose states lead to themselves too; `rings`, a chain of rings of four; `ring`, one ring of all
+                 a chain whose states lead to themselves too; `rings4`, a chain of rings of four, and so for 2 and 3;
+                 `ring`, one ring of all
 fair=16          how many states are drawn for each fairness set; or `all`, or `last`: the last state alone
 seen=0           how many propositions an event shows, on average; with 0 nothing is seen and every state is a starting state, so that as many
                  pairs as can be are held
 operators=XFGUR  the temporal operators that are drawn
 labels=drawn     or `rare`: each proposition at one drawn state alone
-rule=drawn       or `again`, G of Fp0 and .. and Fp4; `nested`, F(p0&F(p1&..Fp5)); `untils`, (..((p0Up1)Up2)..Up6)
+rule=drawn       or `again`, G of Fp0 and .. and Fp4; `nested`, F(p0&F(p1&..Fp5)); `untils`, (..((p0Up1)Up2)..Up6); `ahead`, XXXXXXp0
 
 The folder gets plant.txt, rule.txt and log.txt (100 lines along a run of the plant), and twin.txt, the same for the C twin: numbers alone,
 the rule as its nodes, operands first.
@@ -84,8 +85,10 @@ def moves_from(s):
         return 1 << s if last else 2 << s
     if shape == 'stays':
         return 1 << s if last else 3 << s
-    if shape == 'rings':
-        return 1 << s - 3 | (0 if last else 2 << s) if s % 4 == 3 else 2 << s
+    if shape.startswith('rings'):
+        size = int(shape[5:])
+        back = 1 << s - size + 1 if s % size == size - 1 else 1 << s if last else 0
+        return back | (0 if last else 2 << s)
     if shape == 'ring':
         return 1 if last else 2 << s
     return some_states(int(shape))
@@ -109,6 +112,11 @@ def rule_of(kind):
         return ('G', fold('&', [('F', leaf) for leaf in leaves[:PARTS - 1]]))
     if kind == 'untils':
         return fold('U', leaves[:PARTS + 1])
+    if kind == 'ahead':
+        rule = leaves[0]
+        for _ in range(PARTS):
+            rule = ('X', rule)
+        return rule
     if kind == 'nested':
         rule = ('F', leaves[PARTS - 1])
         for leaf in reversed(leaves[:PARTS - 1]):
