@@ -36,3 +36,7 @@ module _ (fair next leave enter settled : List ℕ) (parts : ℕ) where
   -- round after round, until nothing changes
   unfoldable pub settleOf : List ℕ → List ℕ
   settleOf all = settle roundOf sameOf enough all
+
+  -- and so from all pairs of a table with so many states
+  unfoldable pub lastingOf : ℕ → List ℕ
+  lastingOf states = settleOf (everyOf (2 ^ parts) (2 ^ states - 1))

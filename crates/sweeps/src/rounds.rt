@@ -5,10 +5,10 @@ use pairs::Pairs;
 ghost use mathlib.Core.Path.{_≡_};
 ghost use Prim.Native.Nat.{_+_, _≤_, _<_};
 ghost use lib.ListN.{length};
-ghost use Rattle.sweeps.specs.Rounds.{everyOf, settledIn, goalOf, roundOf, settleOf};
+ghost use Rattle.sweeps.specs.Rounds.{everyOf, settledIn, goalOf, roundOf, settleOf, lastingOf};
 
 // The same word at each valuation.
-pub fn every(count: usize, word: u64) -> Pairs
+fn every(count: usize, word: u64) -> Pairs
     requires { ⌜ count ≤ 64 ⌝ }
     ensures { λ r. ⌜ r .words ≡ everyOf count word ⌝ }
 {
@@ -66,7 +66,7 @@ fn round(
 }
 
 // Round after round, until nothing changes.
-pub fn settle(
+fn settle(
     fair: &[u64],
     next: &[u64],
     leave: &[u64; 1024],
@@ -86,4 +86,21 @@ pub fn settle(
         }
         set = less;
     }
+}
+
+// From all pairs of the table, those from which every goal is met again and again.
+pub fn lasting(
+    states: usize,
+    fair: &[u64],
+    next: &[u64],
+    leave: &[u64; 1024],
+    enter: &[u64; 1024],
+    settled: &[u64; 384],
+    parts: usize,
+) -> Pairs
+    requires { ⌜ ((1 ≤ states) × (states ≤ 64)) × (parts ≤ 6) × (length (now fair) ≤ 4) ⌝ }
+    ensures { λ r. ⌜ r .words ≡ lastingOf (now (fair .entry)) (now (next .entry)) (now (leave .entry)) (now (enter .entry)) (now (settled .entry)) parts states ⌝ }
+{
+    let all = every(moves::valuations(parts), words::all(states));
+    settle(fair, next, leave, enter, settled, parts, all)
 }
