@@ -40,7 +40,8 @@ module _ (p : Plant) (fair label next : List ℕ) (rule : Rule) where
     pub in-order : Ready label rule × ((1 ≤ p .states) × (p .states ≤ 64)) × (length fair ≤ 4)
     in-order = (ready i, (i .table .some-states, i .table .few-states), i .table .few-fair)
 
-    live-set-is : liveOf (p .states) fair label next rule ≡ liveSet table formula
+    -- and these are those of the model
+    pub live-set-is : liveOf (p .states) fair label next rule ≡ liveSet table formula
     unfolding liveOf
     live-set-is = live-by table formula (i .table) (i .few) (tablesOf label rule) (right i)
 

@@ -1,10 +1,10 @@
 -- What `prepare` answers: 01's checks, and behind them the live set of the table and the rule.
-use Prim.Native.Nat.{ℕ, _-_, _^_}
+use Prim.Native.Nat.{ℕ}
 use mathlib.Core.List.{List}
 use lib.ListN.{replicate}
 use Rattle.model.specs.LiveSet.{liveSet}
 use Rattle.leads.specs.Halves.{leavingOf, enteringOf}
-use Rattle.sweeps.specs.Rounds.{everyOf, settleOf}
+use Rattle.sweeps.specs.Rounds.{lastingOf}
 use Rattle.answers.specs.declared.Outcome.{Outcome}
 use Rattle.answers.specs.declared.Outcome.the-variants.{Accepted, Refused}
 use Rattle.plant.specs.declared.Plant.{Plant}
@@ -27,8 +27,7 @@ preparedOf p fair label next rule = preparedAs (inputOutcome p fair label next r
 
 unfoldable pub liveBy : Tables → ℕ → List ℕ → List ℕ → List ℕ
 liveBy t states fair next =
-    settleOf fair next (leavingOf (t .parts) (t .low) (t .high)) (enteringOf (t .parts) (t .nexts) (t .operand)) (t .settled) (t .parts)
-    (everyOf (2 ^ t .parts) (2 ^ states - 1))
+    lastingOf fair next (leavingOf (t .parts) (t .low) (t .high)) (enteringOf (t .parts) (t .nexts) (t .operand)) (t .settled) (t .parts) states
 
 unfoldable pub liveOf : ℕ → List ℕ → List ℕ → List ℕ → Rule → List ℕ
 liveOf states fair label next rule = liveBy (tablesOf label rule) states fair next

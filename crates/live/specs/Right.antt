@@ -8,7 +8,7 @@ use Rattle.meaning.specs.Limits.{AcceptedTable, Small}
 use Rattle.model.specs.LiveSet.{allPairs, liveSet}
 use Rattle.leads.specs.Halves.{leavingOf, enteringOf}
 use Rattle.leads.specs.Right.{before-halves}
-use Rattle.sweeps.specs.Rounds.{everyOf, settleOf}
+use Rattle.sweeps.specs.Rounds.{everyOf, lastingOf}
 use Rattle.sweeps.specs.Right.{Moves}
 use Rattle.sweeps.specs.Lives.{live-right}
 use Rattle.syntax.specs.declared.Rule.{Rule}
@@ -20,11 +20,11 @@ use Rattle.live.specs.Prepare.{liveBy, liveOf}
 -- ---- what the code has
 
 -- what its calls give, one after the other
-pub live-is : {t : Tables} (states : ℕ) (fair label next : List ℕ) (rule : Rule) {leave enter all r : List ℕ} {n word : ℕ} → t ≡ tablesOf label rule
-    → leave ≡ leavingOf (t .parts) (t .low) (t .high) → enter ≡ enteringOf (t .parts) (t .nexts) (t .operand) → n ≡ 2 ^ t .parts → word ≡ 2 ^ states - 1
-    → all ≡ everyOf n word → r ≡ settleOf fair next leave enter (t .settled) (t .parts) all → r ≡ liveOf states fair label next rule
+pub live-is : {t : Tables} (states : ℕ) (fair label next : List ℕ) (rule : Rule) {leave enter r : List ℕ} → t ≡ tablesOf label rule
+    → leave ≡ leavingOf (t .parts) (t .low) (t .high) → enter ≡ enteringOf (t .parts) (t .nexts) (t .operand)
+    → r ≡ lastingOf fair next leave enter (t .settled) (t .parts) states → r ≡ liveOf states fair label next rule
 unfolding liveOf liveBy
-live-is states fair label next rule e el ee en ew ea er = er ∙ rw (el, ee, ea, en, ew) (ap (λ (u : Tables). liveBy u states fair next) e)
+live-is states fair label next rule e el ee er = er ∙ rw (el, ee) (ap (λ (u : Tables). liveBy u states fair next) e)
 
 -- ---- what it means
 
@@ -37,6 +37,6 @@ module _ (T : Plant) (f : Formula) (A : AcceptedTable T) (small : Small f) (t : 
   moves = record { leading = before-halves T f A small (t .low) (t .high) (t .nexts) (t .operand) (R .low) (R .high) (R .nexts) (R .operand) }
 
   pub live-by : liveBy t (T .states) (T .fair) (T .next) ≡ liveSet T f
-  unfolding liveBy
+  unfolding liveBy lastingOf
   live-by = rw (R .count, every-all T f)
       (live-right T f A small (leavingOf (parts f) (t .low) (t .high)) (enteringOf (parts f) (t .nexts) (t .operand)) moves (t .settled) (R .settled))

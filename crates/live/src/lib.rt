@@ -4,8 +4,7 @@ use leads::halves::entering;
 use leads::halves::leaving;
 use pairs::Pairs;
 use plant::Plant;
-use sweeps::rounds::every;
-use sweeps::rounds::settle;
+use sweeps::rounds::lasting;
 use syntax::Rule;
 ghost use mathlib.Core.Path.{_≡_};
 ghost use Prim.Native.Nat.{_≤_};
@@ -25,21 +24,16 @@ fn live_pairs(states: usize, fair: &[u64], label: &[u16], next: &[u64], rule: Ru
     ensures { λ r. ⌜ r .words ≡ liveOf states (now (fair .entry)) (now (label .entry)) (now (next .entry)) rule ⌝ }
 {
     let tables = truth::tables::tables_of(label, rule);
-    let low = tables.low;
-    let high = tables.high;
-    let operand = tables.operand;
-    let settled = tables.settled;
-    let leave = leaving(tables.parts, &low, &high);
-    let enter = entering(tables.parts, tables.nexts, &operand);
-    let all = every(moves::valuations(tables.parts), words::all(states));
-    settle(
+    let leave = leaving(tables.parts, &tables.low, &tables.high);
+    let enter = entering(tables.parts, tables.nexts, &tables.operand);
+    lasting(
+        states,
         fair,
         next,
         &leave.words,
         &enter.words,
-        &settled,
+        &tables.settled,
         tables.parts,
-        all,
     )
 }
 
