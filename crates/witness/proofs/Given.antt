@@ -1,11 +1,13 @@
 -- What the checks give the code behind them, and what the answers are.
 use Prim.Native.Nat.{ℕ, _≤_, _<_}
-use mathlib.Core.Path.{_≡_, refl, sym, ap, ap₂, subst, _∙_}
+use mathlib.Core.Path.{_≡_, refl, sym, ap, subst, _∙_}
 use mathlib.Core.Bool.{Bool, true, false, So, _&&_, not}
 use mathlib.Core.List.{List}
 use lib.Dec.{ltb}
 use lib.ListN.{length}
 use borrow.Author.Tests.{lt-ltb, le-ltb, ltb-false, not-true}
+use Rattle.meaning.specs.Formula.{Formula}
+use Rattle.meaning.specs.Run as run
 use Rattle.graphs.specs.Fair.{Fair}
 use Rattle.pairs.specs.Sets.{emptyOf}
 use Rattle.model.specs.Monitor as model
@@ -14,6 +16,8 @@ use Rattle.model.specs.Sets.{nodesOf}
 use Rattle.model.specs.LiveSet.{meetOf, liveSet}
 use Rattle.model.specs.Lives.{live-set}
 use Rattle.model.specs.Witness.{hasLive}
+use Rattle.leads.specs.Halves.{leavingOf, enteringOf}
+use Rattle.sweeps.specs.Rounds.{lastingOf}
 use Rattle.answers.specs.declared.Kind.the-variants.{Value, Room, NoPair}
 use Rattle.answers.specs.declared.Lamp.{Lamp}
 use Rattle.answers.specs.declared.Refusal.{Refusal}
@@ -23,23 +27,25 @@ use Rattle.answers.specs.declared.Outcome.{Outcome}
 use Rattle.answers.specs.declared.Outcome.the-variants.{Accepted, Refused}
 use Rattle.answers.specs.Paper.{refusedAt}
 use Rattle.plant.specs.declared.Plant.{Plant}
+use Rattle.plant.specs.Table.{plantOf}
 use Rattle.syntax.specs.declared.Rule.{Rule}
-use Rattle.truth.specs.Ready.{Ready}
+use Rattle.truth.specs.declared.tables.Tables.{Tables}
 use Rattle.truth.specs.Tables.{tablesOf}
-use Rattle.checks.specs.Checks.{unless, inputOutcome}
+use Rattle.checks.specs.Checks.{unless, formulaOf, inputOutcome}
 use Rattle.checks.specs.Exactly.{first-refuses, first-passes, test-passes, test-fails, chain-accepts, unless-accepts}
 use Rattle.checks.proofs.Input.{Input}
-use Rattle.checks.proofs.Given.{accepted, right, ready}
-use Rattle.live.specs.declared.Prepared.{Prepared}
-use Rattle.live.specs.Prepare.{preparedAs, preparedOf}
+use Rattle.checks.proofs.Given.{right}
+use Rattle.live.specs.Right.{live-is}
+use Rattle.live.proofs.Given.{live-set-is}
 use Rattle.monitor.specs.declared.Monitor.{Monitor}
 use Rattle.monitor.specs.Calls.{modelOf, lit, checkedOf, lookOf}
 use Rattle.walk.specs.declared.Lengths.{Lengths}
 use Rattle.walk.specs.Legs.{Walked}
+use Rattle.witness.specs.declared.Witnessed.{Witnessed}
 use Rattle.witness.specs.declared.Witnessed.the-variants as Answers
 use Rattle.witness.specs.Run.{movesIn, debtsIn}
 use Rattle.witness.specs.Right.{run-is-fair, run-begins, run-shows}
-use Rattle.witness.specs.Calls.{AnsweredAs, table, formula, askedOf, witnessOutcome, Answered}
+use Rattle.witness.specs.Calls.{AnsweredAs, Sought, table, formula, askedOf, witnessOutcome, Answered}
 
 -- what a look tells of its checks
 abbrev told : Answer → Outcome
@@ -85,63 +91,70 @@ module _ (p : Plant) (fair label next : List ℕ) (rule : Rule) (m : Monitor) wh
     abbrev asks : List ℕ
     asks = model.side (modelOf m) keeps
 
-    abbrev live : List ℕ
-    live = liveSet (table p fair label next rule m) (formula p fair label next rule m)
+    abbrev last : Outcome
+    last = unless (hasLive (table p fair label next rule m) (formula p fair label next rule m) asks) NoPair
 
-    abbrev some : Bool
-    some = hasLive (table p fair label next rule m) (formula p fair label next rule m) asks
+    abbrev As : List ℕ → Witnessed → Outcome → Type 0
+    As now r o = AnsweredAs (table p fair label next rule m) (formula p fair label next rule m) asks o before now r
 
     pub not-asked : {r : Refusal} → o ≡ Refused r → Answered p fair label next rule m keeps before before (Answers.Refused r)
     unfolding witnessOutcome
-    not-asked {r} g = subst (λ (x : Outcome). AnsweredAs (table p fair label next rule m) (formula p fair label next rule m) asks x before before (Answers.Refused r))
-        (first-refuses (unless some NoPair) e g) (refl, refl)
+    not-asked {r} g = subst (As before (Answers.Refused r)) (first-refuses last e g) (refl, refl)
 
     module _ (g : o ≡ Accepted) where
       passed : (looked ≡ Accepted) × (unless (not (ltb (length before) 49152)) Room ≡ Accepted)
       unfolding askedOf
       passed = chain-accepts looked (unless (not (ltb (length before) 49152)) Room) .0 (sym e ∙ g)
 
-      input-passed : inputOutcome p fair label next rule ≡ Accepted
-      input-passed = chain-accepts (inputOutcome p fair label next rule) (unless fine Value) .0 (passed .0) .0
+      -- what the run asks for
+      pub in-order : (inputOutcome p fair label next rule ≡ Accepted) × (49152 ≤ length before)
+      in-order = (
+        chain-accepts (inputOutcome p fair label next rule) (unless fine Value) .0 (passed .0) .0,
+        ltb-false (length before) 49152 (not-true _ (unless-accepts (not (ltb (length before) 49152)) Room .0 (passed .1))),
+      )
 
-      input : Input p fair label next rule
-      input = accepted p fair label next rule full refl input-passed
+      pub answered : {asked : List ℕ} (now : List ℕ) (r : Witnessed) → asked ≡ asks → Sought (table p fair label next rule m) (formula p fair label next rule m) asked before now r
+          → Answered p fair label next rule m keeps before now r
+      unfolding witnessOutcome
+      answered now r s h = subst (As now r) (first-passes last e g) (rw s at h)
 
-      module _ {prepared : Prepared} (h : prepared ≡ preparedOf p fair label next rule) {asked : List ℕ} (s : asked ≡ asks)
-          {both : List ℕ} (b : both ≡ meetOf asked (prepared .live .words)) {none : Bool} (k : none ≡ emptyOf both) where
-        is-live : prepared .live .words ≡ live
-        unfolding preparedOf
-        is-live = ap (λ (x : Prepared). x .live .words) (h ∙ ap (λ (x : Outcome). preparedAs x live) input-passed)
+-- ---- the run, of an accepted table and rule
 
-        has-some : some ≡ not none
-        unfolding hasLive
-        has-some = sym (ap not (k ∙ ap emptyOf (b ∙ ap₂ meetOf s is-live)))
+module _ {p : Plant} {fair label next : List ℕ} {rule : Rule} (i : Input p fair label next rule) where
+  abbrev T : run.Plant
+  T = plantOf p fair label next
 
-        pub none-live : none ≡ true → {r : Refusal} → r ≡ refusedAt NoPair 0 → Answered p fair label next rule m keeps before before (Answers.Refused r)
-        unfolding witnessOutcome
-        none-live n {r} place = subst (λ (x : Outcome). AnsweredAs (table p fair label next rule m) (formula p fair label next rule m) asks x before before (Answers.Refused r))
-            (test-fails NoPair (has-some ∙ ap not n) refl place ∙ first-passes (unless some NoPair) e g) (refl, refl)
+  abbrev f : Formula
+  f = formulaOf rule
 
-        -- what the walk asks for
-        pub in-order : Ready label rule × (length fair ≤ 4) × (length (prepared .live .words) ≡ 64) × (49152 ≤ length before)
-        in-order = (
-          ready input,
-          input .table .few-fair,
-          ap length is-live ∙ live-set _ _ (input .table) (input .few) .long,
-          ltb-false (length before) 49152 (not-true _ (unless-accepts (not (ltb (length before) 49152)) Room .0 (passed .1))),
-        )
+  -- the live pairs by what the code worked out
+  pub found-live : {t : Tables} {leave enter live : List ℕ} → t ≡ tablesOf label rule
+      → leave ≡ leavingOf (t .parts) (t .low) (t .high) → enter ≡ enteringOf (t .parts) (t .nexts) (t .operand)
+      → live ≡ lastingOf fair next leave enter (t .settled) (t .parts) (p .states) → live ≡ liveSet T f
+  found-live e el ee er = live-is (p .states) fair label next rule e el ee er ∙ live-set-is p fair label next rule i
 
-        pub goes-on : Fair (movesIn (tablesOf label rule) next) (debtsIn (tablesOf label rule) fair) (nodesOf (prepared .live .words))
-        goes-on = rw is-live (run-is-fair _ _ (input .table) (input .few) (tablesOf label rule) (right input))
+  module _ {live : List ℕ} (is : live ≡ liveSet T f) where
+    pub long : length live ≡ 64
+    long = ap length is ∙ live-set T f (i .table) (i .few) .long
 
-        module _ (n : none ≡ false) where
-          pub begins : (y : ℕ) × (So (nodesOf asked y) × So (nodesOf (prepared .live .words) y))
-          begins = rw (is-live, s) (run-begins _ _ (input .table) (input .few) (tablesOf label rule) (right input) asks (has-some ∙ ap not n))
+    pub goes-on : Fair (movesIn (tablesOf label rule) next) (debtsIn (tablesOf label rule) fair) (nodesOf live)
+    goes-on = rw is (run-is-fair T f (i .table) (i .few) (tablesOf label rule) (right i))
 
-          pub answers : {l : Lengths} {now : List ℕ}
-              → Walked (movesIn (tablesOf label rule) next) (debtsIn (tablesOf label rule) fair) (nodesOf (prepared .live .words)) (nodesOf asked) before now (l .stem) (l .turn)
-              → Answered p fair label next rule m keeps before now (Answers.Run l)
-          unfolding witnessOutcome
-          answers {l} {now} w = subst (λ (x : Outcome). AnsweredAs (table p fair label next rule m) (formula p fair label next rule m) asks x before now (Answers.Run l))
-              (test-passes NoPair (has-some ∙ ap not n) refl ∙ first-passes (unless some NoPair) e g)
-              (l, refl, run-shows _ _ (input .table) (input .few) (tablesOf label rule) (right input) (rw (is-live, s) at w))
+    module _ (asked before : List ℕ) {both : List ℕ} (b : both ≡ meetOf asked live) {none : Bool} (k : none ≡ emptyOf both) where
+      has-some : hasLive T f asked ≡ not none
+      unfolding hasLive
+      has-some = sym (ap not (k ∙ ap emptyOf (b ∙ ap (meetOf asked) is)))
+
+      pub none-live : none ≡ true → {r : Refusal} → r ≡ refusedAt NoPair 0 → Sought T f asked before before (Answers.Refused r)
+      none-live n {r} place =
+          subst (λ (o : Outcome). AnsweredAs T f asked o before before (Answers.Refused r)) (test-fails NoPair (has-some ∙ ap not n) refl place) (refl, refl)
+
+      module _ (n : none ≡ false) where
+        pub begins : (y : ℕ) × (So (nodesOf asked y) × So (nodesOf live y))
+        begins = rw is (run-begins T f (i .table) (i .few) (tablesOf label rule) (right i) asked (has-some ∙ ap not n))
+
+        pub goes : {l : Lengths} {now : List ℕ}
+            → Walked (movesIn (tablesOf label rule) next) (debtsIn (tablesOf label rule) fair) (nodesOf live) (nodesOf asked) before now (l .stem) (l .turn)
+            → Sought T f asked before now (Answers.Run l)
+        goes {l} {now} w = subst (λ (o : Outcome). AnsweredAs T f asked o before now (Answers.Run l)) (test-passes NoPair (has-some ∙ ap not n) refl)
+            (l, refl, run-shows T f (i .table) (i .few) (tablesOf label rule) (right i) (rw is at w))

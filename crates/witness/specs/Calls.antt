@@ -29,6 +29,10 @@ abbrev pub AnsweredAs : run.Plant → Formula → List ℕ → Outcome → List 
 AnsweredAs T f asked (Refused x) before now r = (r ≡ Answers.Refused x) × (now ≡ before)
 AnsweredAs T f asked Accepted before now r = (l : Lengths) × (r ≡ Answers.Run l) × Shows T f asked before now (l .stem) (l .turn)
 
+-- check 13, and behind it a witness
+abbrev pub Sought : run.Plant → Formula → List ℕ → List ℕ → List ℕ → Witnessed → Type 0
+Sought T f asked before now r = AnsweredAs T f asked (unless (hasLive T f asked) NoPair) before now r
+
 module _ (p : Plant) (fair label next : List ℕ) (rule : Rule) (m : Monitor) where
   abbrev pub table : run.Plant
   table = plantOf p fair label next

@@ -8,7 +8,6 @@ use answers::Refusal;
 use monitor::Monitor;
 use pairs::Pairs;
 use plant::Plant;
-use sweeps::reach::meet;
 use syntax::Rule;
 use walk::Lengths;
 ghost use mathlib.Core.Path.{_≡_};
@@ -70,23 +69,8 @@ pub fn witness(
     match outcome {
         Outcome::Refused(refusal) => Witnessed::Refused(refusal),
         Outcome::Accepted => {
-            let prepared = live::prepare(plant, fair, label, next, rule);
-            let live = prepared.live;
             let asked = side(monitor, keeps);
-            let both = meet(&asked.words, &live.words);
-            if both.is_empty() {
-                return Witnessed::Refused(Refusal::at(Kind::NoPair, 0));
-            }
-            let lengths = run::write_run(
-                fair,
-                label,
-                next,
-                rule,
-                &live.words,
-                &asked.words,
-                buffer,
-            );
-            Witnessed::Run(lengths)
+            run::write_run(plant, fair, label, next, rule, &asked.words, buffer)
         }
     }
 }
