@@ -1,5 +1,6 @@
 pub mod Graph
-pub mod Ranking
 pub mod Joining
+pub mod Places
+pub mod Ranking
 pub mod Scan
 pub mod Search

@@ -4,12 +4,12 @@ use native.Mathlib.Omega.{arith}
 use native.Mathlib.Decide.{ℕ-discrete}
 use mathlib.Core.Path.{_≡_, refl, sym, ap, ap₂, _∙_}
 use mathlib.Core.Logic.{_↔_, _⊎_, inl, inr, ⊎-elim, ⊎-map}
-use mathlib.Core.Bool.{Bool, true, false, So, _&&_, not, cond, and-false}
+use mathlib.Core.Bool.{Bool, true, false, So, _&&_, not, cond, and-true, and-false}
 use mathlib.Core.List.{List}
-use lib.Dec.{eqb, ltb}
+use lib.Dec.{eqb}
 use lib.ListN.{length, getD, set, length-set}
 use lib.Seq.{getD-set-same, getD-set-other}
-use borrow.Author.Tests.{lt-ltb, le-ltb, ltb-true, eq-eqb, ne-eqb, eqb-true}
+use borrow.Author.Tests.{eq-eqb, ne-eqb, eqb-true}
 use Rattle.meaning.specs.Bit.{bit}
 use Rattle.graphs.specs.Sets.{Nodes, _⊆_, Below}
 use Rattle.graphs.specs.Count.{count-lt, count-pos}
@@ -21,6 +21,7 @@ use Rattle.words.specs.Truth.{so-ext, says-dec, not-so, says-itself, and-says}
 use Rattle.words.specs.Laws.{bit-zero}
 use Rattle.words.specs.Lowest.{lowestOf, othersOf, lowest-lt, bit-lowest, bit-others}
 use Rattle.words.specs.Below.{countBelow}
+use Rattle.nearest.specs.Places.{OnlyAt}
 
 -- the rank of a node
 abbrev pub rankOf : List ℕ → ℕ → ℕ
@@ -83,30 +84,31 @@ marking-end v word rest rank old now none m = record { size = m .size; each = λ
     out : (k : ℕ) → inWord v rest k ≡ false
     out k = rw (none, bit-zero) (and-false (eqb (k / 64) v))
 
--- the pairs of the first n words
-abbrev pub inFirst : ℕ → List ℕ → ℕ → Bool
-inFirst n joining k = ltb (k / 64) n && nodesOf joining k
+-- the pairs of all words but those of the rest
+abbrev pub passed : ℕ → List ℕ → ℕ → Bool
+passed rest joining k = not (bit rest (k / 64)) && nodesOf joining k
 
-pub marked-start : (joining : List ℕ) (rank : ℕ) (old : List ℕ) → Marked (inFirst 0 joining) rank old old
-marked-start joining rank old = record { size = refl; each = λ k l. rw (le-ltb (k / 64) 0 (omega arith)) }
+module _ (joining : List ℕ) (rank : ℕ) (old : List ℕ) where
+  pub marked-start : (held : ℕ) → OnlyAt 64 held joining → Marked (passed held joining) rank old old
+  marked-start held h = record { size = refl; each = λ k l. ap (λ (b : Bool). cond b rank (getD old k 0)) (sym (none k l (bit held (k / 64)) refl)) }
+    where
+      none : (k : ℕ) → k < 4096 → (b : Bool) → bit held (k / 64) ≡ b → (not b && nodesOf joining k) ≡ false
+      none k l true e = refl
+      none k l false e = rw (h .none (k / 64) (omega arith) e) (bit-zero (k % 64))
 
-pub marked-more : (n : ℕ) (joining : List ℕ) (rank : ℕ) (old now later : List ℕ) → Marked (inFirst n joining) rank old now
-    → Marked (inWord n (getD joining n 0)) rank now later → Marked (inFirst (n + 1) joining) rank old later
-marked-more n joining rank old now later m w = record {
-  size = w .size ∙ m .size;
-  each = λ k l. w .each k l ∙ rw (m .each k l) (elim (ℕ-discrete (k / 64) n) [
-    | yes e ↦ rw (e, eq-eqb n n refl, le-ltb n n (omega arith), lt-ltb n (n + 1) (omega arith))
-    | no d ↦ rw (ne-eqb (k / 64) n d, same k d)
-  ]);
-}
-  where
-    same : (k : ℕ) → (k / 64 ≡ n → ⊥) → ltb (k / 64) n ≡ ltb (k / 64) (n + 1)
-    same k d = so-ext (ltb (k / 64) n) (ltb (k / 64) (n + 1))
-        (λ p. let l = ltb-true (k / 64) n p in lt-ltb (k / 64) (n + 1) (omega arith))
-        (λ p. let l = ltb-true (k / 64) (n + 1) p in lt-ltb (k / 64) n (omega arith))
+  -- the lowest word of the rest
+  pub marked-more : (rest : ℕ) (now later : List ℕ) → 0 < rest → rest < 2 ^ 64 → Marked (passed rest joining) rank old now
+      → Marked (inWord (lowestOf rest) (getD joining (lowestOf rest) 0)) rank now later → Marked (passed (othersOf rest) joining) rank old later
+  marked-more rest now later some fits m w = record {
+    size = w .size ∙ m .size;
+    each = λ k l. w .each k l ∙ rw (m .each k l, bit-others rest some fits (k / 64)) (elim (ℕ-discrete (k / 64) (lowestOf rest)) [
+      | yes e ↦ rw (e, eq-eqb (lowestOf rest) (lowestOf rest) refl, bit-lowest rest some fits)
+      | no d ↦ rw (ne-eqb (k / 64) (lowestOf rest) d, and-true)
+    ]);
+  }
 
-pub marked-end : (joining : List ℕ) (rank : ℕ) (old now : List ℕ) → Marked (inFirst 64 joining) rank old now → Marked (nodesOf joining) rank old now
-marked-end joining rank old now m = record { size = m .size; each = λ k l. m .each k l ∙ rw (lt-ltb (k / 64) 64 (omega arith)) }
+  pub marked-end : (rest : ℕ) (now : List ℕ) → rest ≡ 0 → Marked (passed rest joining) rank old now → Marked (nodesOf joining) rank old now
+  marked-end rest now done m = record { size = m .size; each = λ k l. m .each k l ∙ rw (done, bit-zero (k / 64)) }
 
 module _ {P : ℕ → Bool} {rank : ℕ} {old now : List ℕ} (m : Marked P rank old now) where
   pub marked-old : (k : ℕ) → k < 4096 → ¬ So (P k) → getD now k 0 ≡ getD old k 0

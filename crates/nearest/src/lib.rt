@@ -4,17 +4,19 @@ use pairs::Pairs;
 use sweeps::reach::meet;
 use sweeps::reach::without;
 ghost use mathlib.Core.Path.{_≡_};
-ghost use Prim.Native.Nat.{ℕ, _≤_, _<_};
+ghost use Prim.Native.Nat.{ℕ, _^_, _≤_, _<_};
 ghost use lib.Bits.{bitAnd};
 ghost use lib.ListN.{length};
 ghost use Rattle.moves.specs.Back.{preOf};
+ghost use Rattle.pairs.specs.Sets.{Words};
 ghost use Rattle.graphs.specs.Rank.{Nearest};
 ghost use Rattle.model.specs.Sets.{nodesOf};
 ghost use Rattle.leads.specs.Halves.{fromIn, toIn};
-ghost use Rattle.sweeps.specs.Sweeps.{moversAt, moversOf};
+ghost use Rattle.sweeps.specs.Sweeps.{withoutSet, moversAt, moversOf};
 ghost use Rattle.nearest.specs.Graph.{movesOf, onwardAt, onwardOf};
 ghost use Rattle.nearest.specs.Ranking.{rankOf, inWord, Marked};
 ghost use Rattle.nearest.specs.Joining.{heldOf};
+ghost use Rattle.nearest.specs.Places.{OnlyAt};
 ghost use Rattle.nearest.specs.Scan.{Lower};
 
 // Ranks stand at v * 64 + s for the pair of state s and valuation v, and count for the pairs of `words` alone. The pairs of `last`
@@ -89,24 +91,38 @@ fn joining_at(
     found
 }
 
-// The pairs of `others` with a move into the front.
+// Those that join, and the valuations at which there are some.
+struct Joined {
+    words: [u64; 64],
+    held: u64,
+}
+
+// The pairs of `others` with a move into the front. They are looked for at the valuations of `places` alone: there are no others elsewhere.
 fn joining(
     next: &[u64],
     leave: &[u64; 1024],
     enter: &[u64; 1024],
     count: usize,
     front: &[u64; 64],
+    held: u64,
     others: &[u64; 64],
-) -> Pairs
-    requires { ⌜ count ≤ 64 ⌝ }
-    ensures { λ r. ⌜ r .words ≡ moversOf (now (next .entry)) (now (leave .entry)) (now (enter .entry)) count (now (front .entry)) (now (others .entry)) ⌝ }
+    places: u64,
+) -> Joined
+    requires { ⌜ (count ≤ 64) × (held ≡ heldOf count (now front)) × (places < 2 ^ count) × OnlyAt count places (now others) ⌝ }
+    ensures { λ r. ⌜ (r .words ≡ moversOf (now (next .entry)) (now (leave .entry)) (now (enter .entry)) count (now (front .entry)) (now (others .entry)))
+        × (r .held ≡ heldOf count (r .words)) ⌝ }
 {
-    let held = held_at(count, front);
     let mut words = [0u64; 64];
-    for v in 0..count {
-        words[v] = joining_at(next, leave, enter, count, front, held, others[v], v);
+    let mut some: u64 = 0;
+    let mut rest = places;
+    while rest != 0 {
+        let v = words::lowest(rest);
+        let word = joining_at(next, leave, enter, count, front, held, others[v], v);
+        words[v] = word;
+        some |= words::only(word != 0, words::single(v));
+        rest = words::others(rest);
     }
-    Pairs { words }
+    Joined { words, held: some }
 }
 
 // The pairs of a word at v get the rank.
@@ -122,16 +138,33 @@ fn rank_word(ranks: &mut [u16; 4096], v: usize, word: u64, rank: u16)
 }
 
 // Those that join get the rank; all others keep theirs.
-fn rank_all(ranks: &mut [u16; 4096], joining: &[u64; 64], rank: u16)
-    requires { ⌜ length (now ranks) ≡ 4096 ⌝ }
+fn rank_all(ranks: &mut [u16; 4096], joining: &[u64; 64], held: u64, rank: u16)
+    requires { ⌜ (length (now ranks) ≡ 4096) × OnlyAt 64 held (now joining) ⌝ }
     ensures { λ _. ⌜ Marked (nodesOf (now (joining .entry))) rank (now (ranks .entry)) (now (ranks .exit)) ⌝ }
 {
-    for v in 0..64 {
+    let mut rest = held;
+    while rest != 0 {
+        let v = words::lowest(rest);
         rank_word(ranks, v, joining[v], rank);
+        rest = words::others(rest);
     }
 }
 
-// The pairs of z that reach `goal` within z: sweep by sweep, those with a move into what joined last join it.
+// Those that join are no longer among the others.
+fn drop_all(others: &mut [u64; 64], joining: &[u64; 64], held: u64)
+    requires { ⌜ Words (now others) × OnlyAt 64 held (now joining) ⌝ }
+    ensures { λ _. ⌜ now (others .exit) ≡ withoutSet (now (others .entry)) (now (joining .entry)) ⌝ }
+{
+    let mut rest = held;
+    while rest != 0 {
+        let v = words::lowest(rest);
+        others[v] = words::without(others[v], joining[v]);
+        rest = words::others(rest);
+    }
+}
+
+// The pairs of z that reach `goal` within z: sweep by sweep, those with a move into what joined last join it. A sweep goes over the
+// valuations at which there is something to do, most often a few.
 pub fn nearest(
     next: &[u64],
     leave: &[u64; 1024],
@@ -144,22 +177,24 @@ pub fn nearest(
     ensures { λ r. ⌜ Nearest 4096 (movesOf (now (next .entry)) (now (leave .entry)) (now (enter .entry)) count)
         (nodesOf (now (z .entry))) (nodesOf (now (goal .entry))) (nodesOf (r .words)) (rankOf (r .ranks)) ⌝ }
 {
-    let mut found = meet(z, goal);
-    let mut front = found;
+    let mut front = meet(z, goal).words;
+    let mut others = without(z, &front).words;
+    let mut held = held_at(count, &front);
+    let places = held_at(count, &others);
     let mut ranks = [0u16; 4096];
     let mut rank: u16 = 0;
     loop {
-        let others = without(z, &found.words);
-        let more = joining(next, leave, enter, count, &front.words, &others.words);
-        if more.is_empty() {
-            let words = found.words;
-            let last = front.words;
+        let more = joining(next, leave, enter, count, &front, held, &others, places);
+        if more.held == 0 {
+            let words = without(z, &others).words;
+            let last = front;
             break Near { words, last, ranks };
         }
         rank += 1;
-        rank_all(&mut ranks, &more.words, rank);
-        found = found.join(more);
-        front = more;
+        rank_all(&mut ranks, &more.words, more.held, rank);
+        drop_all(&mut others, &more.words, more.held);
+        held = more.held;
+        front = more.words;
     }
 }
 
