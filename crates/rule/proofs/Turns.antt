@@ -2,14 +2,13 @@
 use Prim.Native.Nat.{ℕ, _+_, _-_, _≤_, _<_}
 use mathlib.Core.Path.{_≡_, sym, ap, _∙_}
 use mathlib.Core.List.{List, [], _∷_}
-use mathlib.Core.Bool.{Bool, true, false, _&&_}
+use mathlib.Core.Bool.{Bool, true, false, _&&_, cond}
 use native.Mathlib.Omega.{arith}
 use borrow.Author.Tests.{le-leb, lt-leb}
 use lib.Dec.{eqb}
 use Rattle.syntax.specs.declared.Op.{Op}
-use Rattle.syntax.specs.declared.Op.the-variants.{False, True, Prop, Not, Next, Finally, Globally, Until, Release, And, Or, Implies}
 use Rattle.syntax.specs.Postfix.{sides, whole}
-use Rattle.syntax.specs.Value.{temporalDigit, count}
+use Rattle.syntax.specs.Value.{isPart, count}
 use Rattle.meaning.specs.Step.{every}
 
 module _ (p : Op → Bool) {os : List Op} {b : Bool} (inv : every p os ≡ b) where
@@ -39,21 +38,11 @@ module _ {os : List Op} (d : ℕ) {b : Bool} (inv : whole os d ≡ b) where
   unfolding whole
   whole-ends e = sym (ap (λ l. whole l d) e) ∙ inv
 
-pub temporal-few : (o : Op) → temporalDigit o ≤ 1
-temporal-few False = omega arith
-temporal-few True = omega arith
-temporal-few (Prop k) = omega arith
-temporal-few Not = omega arith
-temporal-few Next = omega arith
-temporal-few Finally = omega arith
-temporal-few Globally = omega arith
-temporal-few Until = omega arith
-temporal-few Release = omega arith
-temporal-few And = omega arith
-temporal-few Or = omega arith
-temporal-few Implies = omega arith
+pub one-at-most : (b : Bool) → cond b 1 0 ≤ 1
+one-at-most true = omega arith
+one-at-most false = omega arith
 
-pub count-turn : {os ps : List Op} {o : Op} → os ≡ o ∷ ps → count os ≡ temporalDigit o + count ps
+pub count-turn : {os ps : List Op} {o : Op} → os ≡ o ∷ ps → count os ≡ cond (isPart o) 1 0 + count ps
 unfolding count
 count-turn e = ap count e
 

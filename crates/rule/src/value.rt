@@ -2,8 +2,9 @@
 use syntax::Op;
 use syntax::Rule;
 ghost use mathlib.Core.Path.{_≡_};
+ghost use mathlib.Core.Bool.{cond};
 ghost use Rattle.syntax.specs.Postfix.{whole};
-ghost use Rattle.syntax.specs.Value.{held, beyond, temporalDigit, count};
+ghost use Rattle.syntax.specs.Value.{held, beyond, isPart, count};
 ghost use Rattle.meaning.specs.Step.{every};
 ghost use Rattle.rule.specs.Valid.{isFalse, known};
 
@@ -48,22 +49,9 @@ fn is_false(op: Op) -> bool
 
 // 1 for a temporal operator.
 fn temporal_of(op: Op) -> usize
-    ensures { λ r. ⌜ r ≡ temporalDigit op ⌝ }
+    ensures { λ r. ⌜ r ≡ cond (isPart op) 1 0 ⌝ }
 {
-    match op {
-        Op::False => 0,
-        Op::True => 0,
-        Op::Prop(_) => 0,
-        Op::Not => 0,
-        Op::Next => 1,
-        Op::Finally => 1,
-        Op::Globally => 1,
-        Op::Until => 1,
-        Op::Release => 1,
-        Op::And => 0,
-        Op::Or => 0,
-        Op::Implies => 0,
-    }
+    if syntax::is_part(op) { 1 } else { 0 }
 }
 
 // Whether the nodes are those of one rule: each finds its operands, and one rule is left.

@@ -6,25 +6,11 @@ use lib.ListN.{getD}
 use Rattle.syntax.specs.declared.Op.{Op}
 use Rattle.syntax.specs.declared.Op.the-variants.{False, True, Prop, Not, Next, Finally, Globally, Until, Release, And, Or, Implies}
 use Rattle.syntax.specs.declared.Node.{Node}
+pub use Rattle.syntax.specs.Value.{isPart}
 
 -- the operator of node i
 abbrev pub opAt : List Node → ℕ → Op
 opAt nodes i = getD nodes i (record { op = False }) .op
-
--- whether it is a temporal part
-abbrev pub isPart : Op → Bool
-isPart False = false
-isPart True = false
-isPart (Prop p) = false
-isPart Not = false
-isPart Next = true
-isPart Finally = true
-isPart Globally = true
-isPart Until = true
-isPart Release = true
-isPart And = false
-isPart Or = false
-isPart Implies = false
 
 -- whether it is an X
 abbrev pub isStep : Op → Bool

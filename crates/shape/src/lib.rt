@@ -3,11 +3,11 @@
 pub mod ops;
 
 use ops::is_next;
-use ops::is_part;
 use ops::op_at;
 use syntax::Node;
 use syntax::Op;
 use syntax::Rule;
+use syntax::is_part;
 use syntax::sides_of;
 ghost use mathlib.Core.Path.{_≡_};
 ghost use mathlib.Core.Bool.{cond};

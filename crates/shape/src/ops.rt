@@ -1,8 +1,8 @@
-// What a node of a rule is, and whether it is a temporal part.
+// What a node of a rule is.
 use syntax::Op;
 use syntax::Rule;
 ghost use mathlib.Core.Path.{_≡_};
-ghost use Rattle.shape.specs.Ops.{opAt, isPart, isStep};
+ghost use Rattle.shape.specs.Ops.{opAt, isStep};
 
 // The operator of node i, and False beyond the rule.
 pub fn op_at(rule: Rule, i: usize) -> Op
@@ -13,26 +13,6 @@ pub fn op_at(rule: Rule, i: usize) -> Op
         return node.op;
     }
     Op::False
-}
-
-// Whether it is a temporal part.
-pub fn is_part(op: Op) -> bool
-    ensures { λ r. ⌜ r ≡ isPart op ⌝ }
-{
-    match op {
-        Op::False => false,
-        Op::True => false,
-        Op::Prop(_) => false,
-        Op::Not => false,
-        Op::Next => true,
-        Op::Finally => true,
-        Op::Globally => true,
-        Op::Until => true,
-        Op::Release => true,
-        Op::And => false,
-        Op::Or => false,
-        Op::Implies => false,
-    }
 }
 
 // Whether it is an X.

@@ -1,7 +1,7 @@
 -- Rules as values: the nodes in postfix order, and then False.
 use Prim.Native.Nat.{ℕ, _+_, _-_}
 use mathlib.Core.List.{List, [], _∷_, _++_}
-use mathlib.Core.Bool.{cond}
+use mathlib.Core.Bool.{Bool, true, false, cond}
 use lib.Dec.{ltb}
 use lib.ListN.{take, drop, replicate}
 use Rattle.meaning.specs.Formula.{Formula, size}
@@ -41,22 +41,22 @@ held r = opsOf (take (r .len) (r .nodes))
 abbrev pub beyond : Rule → List Op
 beyond r = opsOf (drop (r .len) (r .nodes))
 
--- 1 for a temporal operator, 0 for another
-abbrev pub temporalDigit : Op → ℕ
-temporalDigit False = 0
-temporalDigit True = 0
-temporalDigit (Prop k) = 0
-temporalDigit Not = 0
-temporalDigit Next = 1
-temporalDigit Finally = 1
-temporalDigit Globally = 1
-temporalDigit Until = 1
-temporalDigit Release = 1
-temporalDigit And = 0
-temporalDigit Or = 0
-temporalDigit Implies = 0
+-- whether an operator is a temporal part
+abbrev pub isPart : Op → Bool
+isPart False = false
+isPart True = false
+isPart (Prop k) = false
+isPart Not = false
+isPart Next = true
+isPart Finally = true
+isPart Globally = true
+isPart Until = true
+isPart Release = true
+isPart And = false
+isPart Or = false
+isPart Implies = false
 
--- how many temporal operators there are among nodes
+-- how many of them there are among nodes
 unfoldable pub count : List Op → ℕ
 count [] = 0
-count (o ∷ os) = temporalDigit o + count os
+count (o ∷ os) = cond (isPart o) 1 0 + count os

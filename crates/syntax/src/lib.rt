@@ -2,7 +2,7 @@
 ghost use mathlib.Core.Path.{_≡_};
 ghost use Rattle.syntax.specs.Bytes.{signOf, digitOf};
 ghost use Rattle.syntax.specs.Postfix.{sides};
-ghost use Rattle.syntax.specs.Value.{emptyRule, stored};
+ghost use Rattle.syntax.specs.Value.{emptyRule, stored, isPart};
 
 pub enum Op {
     False,
@@ -172,5 +172,25 @@ pub fn sides_of(op: Op) -> usize
         Op::And => 2,
         Op::Or => 2,
         Op::Implies => 2,
+    }
+}
+
+// Whether an operator is a temporal part.
+pub fn is_part(op: Op) -> bool
+    ensures { λ r. ⌜ r ≡ isPart op ⌝ }
+{
+    match op {
+        Op::False => false,
+        Op::True => false,
+        Op::Prop(_) => false,
+        Op::Not => false,
+        Op::Next => true,
+        Op::Finally => true,
+        Op::Globally => true,
+        Op::Until => true,
+        Op::Release => true,
+        Op::And => false,
+        Op::Or => false,
+        Op::Implies => false,
     }
 }

@@ -3,9 +3,9 @@ use Prim.Native.Nat.{_+_, _-_, _≤_}
 use mathlib.Core.Path.{_≡_, ap}
 use native.Mathlib.Omega.{arith}
 use borrow.Author.Needs.{needs}
-use Rattle.syntax.specs.Value.{held, count}
+use Rattle.syntax.specs.Value.{held, isPart, count}
 use Rattle.syntax.proofs.Held.{full, opAt, heldFrom, stored-few, held-start, held-turn, held-end}
-use Rattle.rule.proofs.Turns.{temporal-few, count-turn, count-end}
+use Rattle.rule.proofs.Turns.{one-at-most, count-turn, count-end}
 use Rattle.rule.proofs.value.parts_of.Statement.{statement}
 use Rattle.rule.proofs.value.parts_of.Tie as tie
 
@@ -27,7 +27,7 @@ inside c = omega (arith, c .loop-test .taken, c .before .before .stored .ensures
 add-parts : tie.Need-add-parts Inv-loop μ-loop
 add-parts c =
     let l = c .before .before in
-    omega (arith, inside l, l .before .loop .inv .1, c .temporal-of .ensures, temporal-few (opAt (l .before .before .before .args .t1 .nodes) (l .before .loop .at)))
+    omega (arith, inside l, l .before .loop .inv .1, c .temporal-of .ensures, one-at-most (isPart (opAt (l .before .before .before .args .t1 .nodes) (l .before .loop .at))))
 
 loop-again : tie.Need-loop-again Inv-loop μ-loop
 loop-again c =
@@ -36,7 +36,7 @@ loop-again c =
     let r = start .args .t1 in
     let at = l .before .loop .at in
     let fact = count-turn (held-turn r (full (r .nodes) (start .good .0 .1 .1 .1 .0)) at (omega (arith, l .loop-test .taken, l .before .before .stored .ensures))) in
-    let few = temporal-few (opAt (r .nodes) at) in
+    let few = one-at-most (isPart (opAt (r .nodes) at)) in
     (omega (arith, l .loop-test .taken), omega (arith, l .before .loop .inv .1, c .temporal-of .ensures), omega (arith, l .before .loop .inv .2, c .temporal-of .ensures))
 
 returns : tie.Need-returns Inv-loop μ-loop
