@@ -1,6 +1,7 @@
 // Where runs can be after one more event: by moves, at a restart anew from the start, at the first event where they were.
 use crate::Monitor;
 use crate::opening::opened;
+use leads::images::image;
 use log::Event;
 use pairs::Pairs;
 use syntax::Rule;
@@ -23,10 +24,8 @@ fn cut(held: &[u64; 64], live: &[u64; 64], agree: u64) -> Pairs
 fn kept(monitor: Monitor, live: Pairs, agree: u64) -> Monitor
     ensures { λ r. ⌜ r ≡ keptOf monitor live agree ⌝ }
 {
-    let held = monitor.keeps;
-    let other = monitor.breaks;
-    let keeps = cut(&held.words, &live.words, agree);
-    let breaks = cut(&other.words, &live.words, agree);
+    let keeps = cut(&monitor.keeps.words, &live.words, agree);
+    let breaks = cut(&monitor.breaks.words, &live.words, agree);
     Monitor {
         seen: true,
         keeps,
@@ -47,29 +46,14 @@ fn moved(
     ensures { λ r. ⌜ r ≡ movedOf (now (label .entry)) (now (next .entry)) rule live monitor agree ⌝ }
 {
     let tables = truth::tables::move_tables_of(label, rule);
-    let held = monitor.keeps;
-    let other = monitor.breaks;
     let leave = leads::halves::leaving(tables.parts, &tables.low, &tables.high);
     let enter = leads::halves::entering(tables.parts, tables.nexts, &tables.operand);
     let count = moves::valuations(tables.parts);
-    let keeps = leads::images::image(
-        next,
-        &leave.words,
-        &enter.words,
-        count,
-        &held.words,
-        &live.words,
-        agree,
-    );
-    let breaks = leads::images::image(
-        next,
-        &leave.words,
-        &enter.words,
-        count,
-        &other.words,
-        &live.words,
-        agree,
-    );
+    let from = &leave.words;
+    let to = &enter.words;
+    let live = &live.words;
+    let keeps = image(next, from, to, count, &monitor.keeps.words, live, agree);
+    let breaks = image(next, from, to, count, &monitor.breaks.words, live, agree);
     Monitor {
         seen: true,
         keeps,
