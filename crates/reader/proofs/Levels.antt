@@ -2,7 +2,7 @@
 use Prim.Native.Nat.{ℕ, zero, suc, _+_, _-_, _*_, _≤_, _<_}
 use mathlib.Core.Path.{_≡_, refl, sym, ap, _∙_}
 use mathlib.Core.List.{List, [], _∷_, _++_}
-use mathlib.Core.Bool.{Bool, true, false}
+use mathlib.Core.Bool.{true, false}
 use native.Mathlib.Omega.{arith}
 use borrow.Author.Tests.{eq-eqb, ne-eqb}
 use lib.ListN.{length}
@@ -11,6 +11,7 @@ use Rattle.syntax.specs.declared.Rule.{Rule}
 use Rattle.syntax.specs.declared.Token.{Token}
 use Rattle.syntax.specs.Bytes.{tokens}
 use Rattle.syntax.specs.Reader.{Got, stay, onward, number, opOf, head, tail, pick, begins, operator, leaf}
+use Rattle.syntax.proofs.Stable.{picked, unpicked}
 use Rattle.reader.specs.Draft.{pushed, written, closedBy, pastMark, Leads, Did, Next}
 use Rattle.reader.specs.declared.Mark.{Mark}
 use Rattle.reader.specs.declared.Draft.{Draft}
@@ -66,14 +67,6 @@ module _ (s : List ℕ) where
 
   unheard : {at k : ℕ} {m : Mark} → Next s at m → (m .number ≡ k → ⊥) → begins k (tokens s at) ≡ false
   unheard x e = ne-eqb _ _ (λ q. e (x .number-is ∙ q))
-
-  picked : {b : Bool} (g g′ : Got) → b ≡ true → pick b g g′ ≡ g
-  unfolding pick
-  picked g g′ e = rw e
-
-  unpicked : {b : Bool} (g g′ : Got) → b ≡ false → pick b g g′ ≡ g′
-  unfolding pick
-  unpicked g g′ e = rw e
 
   -- past a mark that is no end, the text is read further
   pub further : {d p : Draft} {m : Mark} (k : ℕ) → k < 8 → Next s (d .at) m → m .number ≡ k → p ≡ pastMark d m → (d .at < p .at) × (p .at ≤ length s)

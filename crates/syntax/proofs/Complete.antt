@@ -2,7 +2,7 @@
 use Prim.Native.Nat.{ℕ, zero, suc, _+_, _≤_, _<_}
 use mathlib.Core.Path.{_≡_, refl, sym, ap, _∙_}
 use mathlib.Core.List.{List, [], _∷_, _++_, append-assoc, append-nil}
-use mathlib.Core.Bool.{Bool, false}
+use mathlib.Core.Bool.{false}
 use native.Mathlib.Omega.{arith}
 use borrow.Author.Tests.{ne-eqb}
 use Rattle.meaning.specs.Formula.{Formula}
@@ -12,6 +12,7 @@ use Rattle.syntax.specs.declared.Token.the-variants.{Leaf, Prefix, Infix
 use Rattle.syntax.specs.Grammar.{Level, arrows, ors, ands, untils, prefixes, leaves, tighter, Side, left, right, Atom, is-false, is-true, is-prop, Unary, is-not, is-next, is-finally, is-globally, Binary, is-implies, is-or, is-and, is-until, is-release, Text, atom, group, unary, lefts, rights, tight}
 use Rattle.syntax.specs.Postfix.{postfix}
 use Rattle.syntax.specs.Reader.{Got, stay, after, closed, onward, place, rank, head, tail, pick, begins, read, more}
+use Rattle.syntax.proofs.Stable.{unpicked}
 
 -- P holds from some fuel on
 abbrev pub Ev : (ℕ → Type 0) → Type 0
@@ -50,17 +51,13 @@ unheard k (Open ∷ ts) h g = ne-eqb 6 k (λ e. omega arith)
 unheard k (Close ∷ ts) h g = ne-eqb 7 k (λ e. omega arith)
 unheard k (End ∷ ts) h g = ne-eqb 8 k (λ e. omega arith)
 
-not-picked : {b : Bool} (x y : Got) → b ≡ false → pick b x y ≡ y
-unfolding pick
-not-picked x y h = rw h
-
 -- tokens that begin with no operator of the level are left
 quiet : (l : Level) (ts : List Token) → front ts ≤ rank l → Ev (λ n. more n l ts ≡ stay ts)
 unfolding more rank
-quiet arrows ts h = later (0, λ n _. not-picked _ _ (unheard 0 ts (omega arith) h))
-quiet ors ts h = later (0, λ n _. not-picked _ _ (unheard 1 ts (omega arith) h))
-quiet ands ts h = later (0, λ n _. not-picked _ _ (unheard 2 ts (omega arith) h))
-quiet untils ts h = later (0, λ n _. not-picked _ _ (unheard 3 ts (omega arith) h))
+quiet arrows ts h = later (0, λ n _. unpicked _ _ (unheard 0 ts (omega arith) h))
+quiet ors ts h = later (0, λ n _. unpicked _ _ (unheard 1 ts (omega arith) h))
+quiet ands ts h = later (0, λ n _. unpicked _ _ (unheard 2 ts (omega arith) h))
+quiet untils ts h = later (0, λ n _. unpicked _ _ (unheard 3 ts (omega arith) h))
 quiet prefixes ts h = later (0, λ n _. refl)
 quiet leaves ts h = later (0, λ n _. refl)
 
@@ -209,7 +206,7 @@ loosen ands t r us R h e = joined is-and r us R (omega (arith, bound-rises ands)
 loosen untils t r us R h e = joined is-until r us R (omega (arith, bound-rises untils)) (omega (arith, bound-tighter untils)) e
 loosen prefixes {f} {ts} t r us R h e =
     rw (settled prefixes us R (omega (arith, bound-tighter prefixes)) e)
-    (later (map (alone prefixes r us (omega (arith, bound-rises prefixes)) (omega (arith, bound-tighter prefixes))) (λ n a. not-picked _ _ (leaf-first t refl us) ∙ a)))
+    (later (map (alone prefixes r us (omega (arith, bound-rises prefixes)) (omega (arith, bound-tighter prefixes))) (λ n a. unpicked _ _ (leaf-first t refl us) ∙ a)))
 loosen leaves t r us R h e = r .by us R h e
 
 -- an operator of a two-sided level, with its right operand: read, and written behind

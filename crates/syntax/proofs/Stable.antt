@@ -29,6 +29,15 @@ unfolding tail head
 tail-lt k h [] e = absurd (omega (arith, eqb-true 8 k e))
 tail-lt k h (t ∷ ts) e = omega arith
 
+-- what is picked
+pub picked : {b : Bool} (x y : Got) → b ≡ true → pick b x y ≡ x
+unfolding pick
+picked x y e = rw e
+
+pub unpicked : {b : Bool} (x y : Got) → b ≡ false → pick b x y ≡ y
+unfolding pick
+unpicked x y e = rw e
+
 by-pick : (P : Got → Type 0) (b : Bool) {x y : Got} → (b ≡ true → P x) → (b ≡ false → P y) → P (pick b x y)
 unfolding pick
 by-pick P true f g = f refl
