@@ -2,6 +2,7 @@
 // of the lent buffer is lent on.
 mod knots;
 mod legs;
+mod rests;
 mod turns;
 
 use crate::legs::some_pair;

@@ -1,0 +1,66 @@
+// Pairs at which a run can stay for ever: they lead to themselves, and every debt is met there.
+use leads::halves::both;
+use pairs::Pairs;
+ghost use mathlib.Core.Path.{_≡_};
+ghost use Prim.Native.Nat.{_+_, _≤_, _<_};
+ghost use lib.ListN.{length};
+ghost use Rattle.model.specs.Sets.{nodesOf};
+ghost use Rattle.nearest.specs.Graph.{movesOf};
+ghost use Rattle.walk.specs.Debts.{debtsTo};
+ghost use Rattle.walk.specs.Rests.{staysOf, fairOf, settlesOf, Rests};
+
+// The states that the plant lets stay.
+fn stays(next: &[u64]) -> u64
+    ensures { λ r. ⌜ r ≡ staysOf (now (next .entry)) ⌝ }
+{
+    let mut found: u64 = 0;
+    for s in 0..64 {
+        found |= words::entry(next, s) & words::single(s);
+    }
+    found
+}
+
+// The states of every fairness set.
+fn fair_states(fair: &[u64]) -> u64
+    ensures { λ r. ⌜ r ≡ fairOf (now (fair .entry)) ⌝ }
+{
+    let mut met: u64 = 0xffff_ffff_ffff_ffff;
+    for k in 0..fair.len() {
+        met &= fair[k];
+    }
+    met
+}
+
+// The states at which v settles every part.
+fn settles(settled: &[u64; 384], parts: usize, v: usize) -> u64
+    requires { ⌜ (parts ≤ 6) × (v < 64) ⌝ }
+    ensures { λ r. ⌜ r ≡ settlesOf (now (settled .entry)) parts v ⌝ }
+{
+    let mut met: u64 = 0xffff_ffff_ffff_ffff;
+    for k in 0..parts {
+        met &= settled[v * 6 + k];
+    }
+    met
+}
+
+// A word at a time: what stays, moves from v to v, and meets all.
+pub fn rests(
+    next: &[u64],
+    leave: &[u64; 1024],
+    enter: &[u64; 1024],
+    count: usize,
+    fair: &[u64],
+    settled: &[u64; 384],
+    parts: usize,
+) -> Pairs
+    requires { ⌜ (count ≤ 64) × (parts ≤ 6) ⌝ }
+    ensures { λ r. ⌜ Rests (movesOf (now (next .entry)) (now (leave .entry)) (now (enter .entry)) count)
+        (debtsTo (now (fair .entry)) count (now (settled .entry)) (length (now (fair .entry)) + parts)) (nodesOf (r .words)) ⌝ }
+{
+    let kept = stays(next) & fair_states(fair);
+    let mut words = [0u64; 64];
+    for v in 0..count {
+        words[v] = kept & both(leave, v, v) & both(enter, v, v) & settles(settled, parts, v);
+    }
+    Pairs { words }
+}
