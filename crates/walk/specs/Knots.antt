@@ -59,6 +59,15 @@ pub record Knotted (edge : Edges) (Z : Nodes) (x q : ℕ) (C : Nodes) (rank : �
   pub near : Nearest 4096 edge Z (only q) C rank
   pub home : (y : ℕ) → Reach edge Z q y → So (C y)
 
+module _ {edge : Edges} {Z : Nodes} {x q : ℕ} {C : Nodes} {rank : ℕ → ℕ} (h : Knotted edge Z x q C rank) where
+  -- x is one of those that lead there
+  pub knotted-in : So (C x)
+  knotted-in = to-iff (h .near .closure) x .1 (h .comes)
+
+  -- and so is q
+  pub knotted-there : Knotted edge Z q q C rank
+  knotted-there = record { comes = stay (last-in (h .comes .1)); near = h .near; home = h .home }
+
 -- the pairs of z that are not found
 without-nodes : (z found : List ℕ) → length z ≡ 64 → Fit found → (x : ℕ) → So (nodesOf (withoutSet z found) x) ↔ (So (nodesOf z x) × ¬ So (nodesOf found x))
 without-nodes z found long fits x = (

@@ -1,20 +1,20 @@
 -- The stretches of the walk: down the ranks to a debt, by way of each debt, and back to where the loop began.
 use Prim.Native.Nat.{ℕ, suc, _+_, _*_, _%_, _≤_, _<_}
 use native.Mathlib.Omega.{arith}
-use native.Mathlib.Decide.{ℕ-discrete}
-use mathlib.Core.Path.{_≡_, sym, ap, _∙_}
+use mathlib.Core.Path.{_≡_, refl, _∙_}
 use mathlib.Core.Logic.{_⊎_}
 use mathlib.Core.Bool.{So}
-use mathlib.Core.List.{List, [], _++_, List·Memᴰ}
-use lib.ListN.{length, take, set, length-map, length-take, take-append-drop}
+use mathlib.Core.List.{List, [], _∷_, _++_, List·Memᴰ, List·Memᴰ·head}
+use lib.ListN.{length, set}
 use Rattle.graphs.specs.Sets.{Nodes, only}
-use Rattle.graphs.specs.Walk.{Edges, last-in, walk-on, Reach, over, stay, walk-widen}
-use Rattle.graphs.specs.Close.{to-iff}
+use Rattle.graphs.specs.Walk.{Edges, on, done, last-in, walk-on, walk-widen}
+use Rattle.graphs.specs.Fair.{Fair}
 use Rattle.graphs.specs.Rank.{Nearest}
 use Rattle.graphs.specs.Lasso.{Tour, Ring, Trail, trail-start, trail-on, trail-end}
 use Rattle.words.specs.Over
-use Rattle.walk.specs.Knots.{Knotted}
-use Rattle.walk.specs.Written.{states, Written, written-start, written-on, written-join, written-widen}
+use Rattle.walk.specs.Rests.{Rests}
+use Rattle.walk.specs.Knots.{Knotted, knotted-in}
+use Rattle.walk.specs.Written.{states, Written, written-start, written-on, written-join, written-widen, written-count, written-over}
 use Rattle.words.specs.Tests.{eq-says}
 use Rattle.words.specs.Folds.{count-le}
 
@@ -38,20 +38,20 @@ pub record Going (edge : Edges) (debts : List Nodes) (Z : Nodes) (q a : ℕ) (be
   pub trail : Trail edge debts Z q a (written .nodes)
   pub short : to ≤ k * 4095
 
--- a loop from q, to which x leads by the ranks, is written at the front
-pub record Turned (edge : Edges) (debts : List Nodes) (Z : Nodes) (x q : ℕ) (C : Nodes) (rank : ℕ → ℕ) (now : List ℕ) (to : ℕ) : Type 0 where
+-- the way from x down to `last` is written, and then its state
+pub record Rested (edge : Edges) (C : Nodes) (rank : ℕ → ℕ) (x : ℕ) (before now : List ℕ) (stem : ℕ) : Type 0 where
+  pub last : ℕ
+  pub between : List ℕ
+  pub led : Led edge C rank x last before between 0 stem
+  pub bytes : now ≡ set between stem (last % 64)
+
+-- a loop from q is written at the front
+pub record Turned (edge : Edges) (debts : List Nodes) (Z : Nodes) (q : ℕ) (before now : List ℕ) (to : ℕ) : Type 0 where
   pub nodes : List ℕ
-  pub comes : Reach edge Z x q
-  pub near : Nearest 4096 edge Z (only q) C rank
   pub tour : Tour edge debts Z q q nodes
   pub count : length nodes ≡ to
-  pub bytes : take to now ≡ states nodes
+  pub bytes : now ≡ Over.over (states nodes) before
   pub short : to ≤ 45056
-
--- the loop tried from q, to which the nodes of B lead: it is written; or its length is 0, and q leads to a node that does not lead back
-pub record Tried (edge : Edges) (debts : List Nodes) (Z : Nodes) (q : ℕ) (B : Nodes) (k : ℕ) (C : Nodes) (rank : ℕ → ℕ) (now : List ℕ) (to : ℕ) : Type 0 where
-  pub turns : 0 < to → Turned edge debts Z q k C rank now to
-  pub strays : to ≡ 0 → (y : ℕ) × (Reach edge Z q y × ¬ So (B y))
 
 -- a lasso from a node of A is written: its stem, its loop from the byte after it, and the rest stays
 pub record Walked (edge : Edges) (debts : List Nodes) (Z A : Nodes) (before now : List ℕ) (stem turn : ℕ) : Type 0 where
@@ -99,78 +99,88 @@ module _ {edge : Edges} {Z : Nodes} where
     short = omega (arith, s .short, e .short);
   }
 
+  -- a move leads on from the end of the walk, to where all leads back
+  pub turn-on : {debts : List Nodes} {q a : ℕ} {before now : List ℕ} {to k : ℕ} {C : Nodes} {rank : ℕ → ℕ} → Fair edge debts Z → Knotted edge Z q q C rank
+      → Going edge debts Z q a before now to k → (y : ℕ) × So (edge a y) × So (C y)
+  turn-on fair h s = let (y, e, j) = fair _ (going-in s) .moves in (y, e, h .home y (_, walk-on (s .written .walks) e j))
+
   -- one move more, and back to q
-  pub turn-end : {debts : List Nodes} {q a y b : ℕ} {before now later : List ℕ} {to up k : ℕ} {C : Nodes} {rank : ℕ → ℕ} → So (Z q)
+  pub turn-end : {debts : List Nodes} {q a y b : ℕ} {before now later : List ℕ} {to up k : ℕ} {C : Nodes} {rank : ℕ → ℕ}
       → Going edge debts Z q a before now to k → k ≤ 10 → So (edge a y) → So (C y) → to < length now → Nearest 4096 edge Z (only q) C rank
-      → Led edge C rank y b (set now to (a % 64)) later (to + 1) up → Tried edge debts Z q C q C rank later up
+      → Led edge C rank y b (set now to (a % 64)) later (to + 1) up → Turned edge debts Z q before later up
   unfolding written-start written-on written-join written-widen
-  turn-end {q} {a} {y} {b} {now} {to} {up} {C} {rank} h s few d i l n e =
+  turn-end {q} {a} {y} {b} {now} {to} {up} {C} {rank} s few d i l n e =
       let p : b ≡ q = eq-says _ _ .0 (n .ends b (e .inside) (e .ends)) in
       let v = written-widen (n .ranked .inside) (rw p at (e .written)) in
       let w = written-join (written-on (written-start now to (going-in s)) d (n .ranked .inside y i) l) v in
       let u = written-join (s .written) w in
       record {
-        turns = λ _. record {
-          nodes = u .nodes;
-          comes = stay h;
-          near = n;
-          tour = trail-end {ys = w .nodes} (s .trail) (w .walks) (omega arith);
-          count = omega (arith, u .count);
-          bytes = u .bytes;
-          short = omega (arith, s .short, e .short, near-low n y i);
-        };
-        strays = λ none. absurd (omega (arith, none, e .written .count));
+        nodes = u .nodes;
+        tour = trail-end {ys = w .nodes} (s .trail) (w .walks) (omega arith);
+        count = omega (arith, u .count);
+        bytes = written-over u;
+        short = omega (arith, s .short, e .short, near-low n y i);
       }
 
-  -- no move from the end of the walk leads back, and there is one
-  pub turn-stray : {debts : List Nodes} {q a y k c : ℕ} {before now later : List ℕ} {to : ℕ} {B C : Nodes} {rank : ℕ → ℕ} → Going edge debts Z q a before now to c
-      → So (edge a y) → So (Z y) → ¬ So (B y) → Tried edge debts Z q B k C rank later 0
-  turn-stray {y} s d j out = record { turns = λ l. absurd (omega (arith, l)); strays = λ _. (y, ((_, walk-on (s .written .walks) d j), out)) }
+  -- the stem down to the knot, and the loop from there
+  pub walked-far : {debts : List Nodes} {x q b : ℕ} {C : Nodes} {rank : ℕ → ℕ} {before now old new later : List ℕ} {stem turn : ℕ} → Knotted edge Z x q C rank
+      → (e : Led edge C rank x b before now 0 stem) (t : Turned edge debts Z q old new turn)
+      → later ≡ Over.over (states (e .written .nodes) ++ states (t .nodes)) before → Walked edge debts Z (only x) before later stem turn
+  walked-far {x} {q} {b} h e t is =
+      let n = h .near in
+      let p : b ≡ q = eq-says _ _ .0 (n .ends b (e .inside) (e .ends)) in
+      record {
+        first = x;
+        asked = eq-says x x .1 refl;
+        stem-nodes = e .written .nodes;
+        turn-nodes = t .nodes;
+        lasso = record { knot = q; comes = walk-widen (n .ranked .inside) (rw p at (e .written .walks)); turns = t .tour };
+        stem-count = omega (arith, e .written .count);
+        turn-count = t .count;
+        stem-short = omega (arith, e .short, near-low n x (knotted-in h));
+        turn-short = t .short;
+        bytes = is;
+      }
 
-  -- from where all leads back it closes, and x leads there
-  pub turn-home : {debts : List Nodes} {x q k : ℕ} {now : List ℕ} {to : ℕ} {B C : Nodes} {rank turning : ℕ → ℕ} → Knotted edge Z x q B rank
-      → Tried edge debts Z q B k C turning now to → Turned edge debts Z x k C turning now to
-  turn-home {to} h t = elim (ℕ-discrete to 0) [
-    | yes none ↦ (let (y, (way, out)) = t .strays none in absurd (out (h .home y way)))
-    | no some ↦ (let u = t .turns (omega (arith, some)) in record {
-      nodes = u .nodes;
-      comes = over (h .comes) (u .comes);
-      near = u .near;
-      tour = u .tour;
-      count = u .count;
-      bytes = u .bytes;
-      short = u .short;
-    })
-  ]
+  module _ {debts : List Nodes} {A : Nodes} (x : ℕ) (held : So (A x)) where
+    -- a lasso from x is one from a node of A
+    pub walked-from : {before now : List ℕ} {stem turn : ℕ} → Walked edge debts Z (only x) before now stem turn → Walked edge debts Z A before now stem turn
+    walked-from w = record {
+      first = w .first;
+      asked = rw (eq-says (w .first) x .0 (w .asked)) held;
+      stem-nodes = w .stem-nodes;
+      turn-nodes = w .turn-nodes;
+      lasso = w .lasso;
+      stem-count = w .stem-count;
+      turn-count = w .turn-count;
+      stem-short = w .stem-short;
+      turn-short = w .turn-short;
+      bytes = w .bytes;
+    }
 
-  module _ {debts : List Nodes} {x q : ℕ} {C : Nodes} {rank : ℕ → ℕ} {bytes : List ℕ} {turn : ℕ} (t : Turned edge debts Z x q C rank bytes turn) where
-    pub turned-in : So (C x)
-    turned-in = to-iff (t .near .closure) x .1 (t .comes)
-
-    -- what is written fits
-    pub turned-fits : turn ≤ length bytes
-    turned-fits = omega (arith, ap length (t .bytes), length-take turn bytes, length-map (t .nodes) (λ (x : ℕ). x % 64), t .count)
-
-    -- the stem over the buffer
-    pub stem-over : {b stem : ℕ} {before now : List ℕ} (e : Led edge C rank x b before now 0 stem) → now ≡ Over.over (states (e .written .nodes)) before
-    stem-over {stem} {before} {now} e =
-        let w = e .written in
-        let n : length (states (w .nodes)) ≡ stem = omega (arith, w .count, length-map (w .nodes) (λ (x : ℕ). x % 64)) in
-        sym (take-append-drop stem now) ∙ rw (w .bytes, w .rest, n)
-
-    pub walked : {A : Nodes} → So (A x) → {b stem : ℕ} {before now later : List ℕ} (e : Led edge C rank x b before now 0 stem)
-        → later ≡ Over.over (states (e .written .nodes) ++ take turn bytes) before → Walked edge debts Z A before later stem turn
-    walked held {b} {stem} e is =
-        let p : b ≡ q = eq-says _ _ .0 (t .near .ends b (e .inside) (e .ends)) in
+    -- the stem down to where it stays
+    pub walked-rest : {S C : Nodes} {rank : ℕ → ℕ} {before now : List ℕ} {stem : ℕ} → Rests edge debts S → Nearest 4096 edge Z S C rank → So (C x)
+        → rank x < length before → Rested edge C rank x before now stem → Walked edge debts Z A before now stem 1
+    walked-rest {before} {stem} rests n i fits r =
+        let e = r .led in
+        let q = r .last in
+        let goal = n .ends q (e .inside) (e .ends) in
+        let live = n .ranked .inside q (e .inside) in
+        let front = states (e .written .nodes) in
+        let many : length front ≡ stem = written-count (e .written) in
         record {
           first = x;
           asked = held;
           stem-nodes = e .written .nodes;
-          turn-nodes = t .nodes;
-          lasso = record { knot = q; comes = walk-widen (t .near .ranked .inside) (rw p at (e .written .walks)); turns = t .tour };
+          turn-nodes = q ∷ [];
+          lasso = record {
+            knot = q;
+            comes = walk-widen (n .ranked .inside) (e .written .walks);
+            turns = record { walks = on live (rests .moves q goal) (done live); moves = omega arith; meets = λ g m. (q, rests .meets q goal g m, List·Memᴰ·head refl) };
+          };
           stem-count = omega (arith, e .written .count);
-          turn-count = t .count;
-          stem-short = omega (arith, e .short, near-low (t .near) x turned-in);
-          turn-short = t .short;
-          bytes = rw (← t .bytes) is;
+          turn-count = refl;
+          stem-short = omega (arith, e .short, near-low n x i);
+          turn-short = omega arith;
+          bytes = r .bytes ∙ rw (written-over (e .written), ← many) (Over.over-set front before (q % 64) (omega (arith, many, e .short)));
         }

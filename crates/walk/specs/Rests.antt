@@ -3,14 +3,14 @@ use Prim.Native.Nat.{ℕ, _+_, _-_, _/_, _%_, _^_, _≤_, _<_}
 use native.Mathlib.Omega.{arith}
 use native.Mathlib.Decide.{decLt}
 use mathlib.Core.Path.{_≡_, sym, subst}
-use mathlib.Core.Bool.{So, _&&_}
+use mathlib.Core.Bool.{So}
 use mathlib.Core.List.{List, List·Memᴰ}
 use lib.Bits.{bitAnd}
-use lib.Dec.{ltb, eqb}
+use lib.Dec.{ltb}
 use lib.ListN.{length, getD}
 use borrow.Author.Tests.{lt-ltb, le-ltb, ltb-true, eqb-true}
 use Rattle.meaning.specs.Bit.{bit}
-use Rattle.words.specs.Below.{allBelow, unionBelow, sharedBelow, wordsBelow}
+use Rattle.words.specs.Below.{unionBelow, sharedBelow, wordsBelow}
 use Rattle.words.specs.Laws.{bit-and, bit-single}
 use Rattle.words.specs.Folds.{any-found, all-at}
 use Rattle.words.specs.Truth.{and-says}

@@ -3,10 +3,11 @@ use Prim.Native.Nat.{ℕ, _+_, _-_, _%_, _≤_, _<_}
 use mathlib.Core.Path.{_≡_, refl, ap, sym, _∙_}
 use mathlib.Core.Bool.{So}
 use mathlib.Core.List.{List, [], _∷_, _++_, map, map-append, append-nil, append-assoc}
-use lib.ListN.{length, take, drop, set, length-append, length-set}
+use lib.ListN.{length, take, drop, set, length-append, length-map, length-set, take-append-drop}
 use lib.Seq.{take-suc-set, drop-set-lt, drop-drop}
 use native.Mathlib.Numerals.{add-one}
 use native.Mathlib.Omega.{arith}
+use Rattle.words.specs.Over.{over}
 use Rattle.graphs.specs.Sets.{Nodes, _⊆_}
 use Rattle.graphs.specs.Walk.{Edges, Walk, done, walk-on, walk-join, walk-widen}
 
@@ -70,3 +71,11 @@ module _ {edge : Edges} where
     rest = w .rest;
     size = w .size;
   }
+
+  -- how many states stand there
+  pub written-count : {Z : Nodes} {x y : ℕ} {before now : List ℕ} {to : ℕ} (w : Written edge Z x y before now 0 to) → length (states (w .nodes)) ≡ to
+  written-count w = omega (arith, w .count, length-map (w .nodes) (λ (x : ℕ). x % 64))
+
+  -- from the first place on they are laid over the buffer
+  pub written-over : {Z : Nodes} {x y : ℕ} {before now : List ℕ} {to : ℕ} (w : Written edge Z x y before now 0 to) → now ≡ over (states (w .nodes)) before
+  written-over {now} {to} w = sym (take-append-drop to now) ∙ rw (w .bytes, w .rest, written-count w)

@@ -5,32 +5,23 @@ mod legs;
 mod rests;
 mod turns;
 
+use crate::knots::find_knot;
 use crate::legs::some_pair;
 use crate::legs::write_leg;
-use crate::turns::write_loop;
+use crate::rests::rests;
+use crate::rests::write_rest;
+use crate::turns::write_turn;
 use sweeps::reach::meet;
 ghost use mathlib.Core.Path.{_≡_};
 ghost use mathlib.Core.Bool.{So};
-ghost use Prim.Native.Nat.{ℕ, _+_, _≤_, _<_};
-ghost use lib.ListN.{length, take};
+ghost use Prim.Native.Nat.{ℕ, _+_, _≤_};
+ghost use lib.ListN.{length};
 ghost use Rattle.graphs.specs.Fair.{Fair};
+ghost use Rattle.graphs.specs.Sets.{only};
 ghost use Rattle.model.specs.Sets.{nodesOf};
 ghost use Rattle.nearest.specs.Graph.{movesOf};
 ghost use Rattle.walk.specs.Debts.{debtsTo};
 ghost use Rattle.walk.specs.Legs.{Walked};
-ghost use Rattle.words.specs.Over.{over};
-
-// The first n bytes of `part` become those of `bytes`.
-fn fill(part: &mut [u8], bytes: &[u8], n: usize)
-    requires { ⌜ (n ≤ length (now part)) × (n ≤ length (now bytes)) ⌝ }
-    ensures { λ _. ⌜ now (part .exit) ≡ over (take n (now (bytes .entry))) (now (part .entry)) ⌝ }
-{
-    let mut i = 0;
-    while i < n {
-        part[i] = bytes[i];
-        i += 1;
-    }
-}
 
 // How many states the stem and the loop have.
 pub struct Lengths {
@@ -45,7 +36,48 @@ impl Lengths {
     pub const ROOM: usize = 49152;
 }
 
-// Writes the walk of a witness for some live pair of the asked set: the stem, and the loop from the byte after it.
+// Writes a walk from x: the stem to a pair to which all leads back that it leads to, and the loop from there.
+fn write_far(
+    next: &[u64],
+    leave: &[u64; 1024],
+    enter: &[u64; 1024],
+    count: usize,
+    fair: &[u64],
+    settled: &[u64; 384],
+    parts: usize,
+    live: &[u64; 64],
+    x: usize,
+    buffer: &mut [u8],
+) -> Lengths
+    requires { ⌜ (count ≤ 64) × (parts ≤ 6) × (length (now fair) ≤ 4) × (length (now live) ≡ 64) × (49152 ≤ length (now buffer)) ⌝ }
+    requires fair { ⌜ Fair (movesOf (now next) (now leave) (now enter) count)
+        (debtsTo (now fair) count (now settled) (length (now fair) + parts)) (nodesOf (now live)) ⌝ }
+    requires inside { ⌜ So (nodesOf (now live) x) ⌝ }
+    ensures { λ r. ⌜ Walked (movesOf (now (next .entry)) (now (leave .entry)) (now (enter .entry)) count)
+        (debtsTo (now (fair .entry)) count (now (settled .entry)) (length (now (fair .entry)) + parts)) (nodesOf (now (live .entry))) (only x)
+        (now (buffer .entry)) (now (buffer .exit)) (r .stem) (r .turn) ⌝ }
+{
+    let knot = find_knot(next, leave, enter, count, live, x);
+    let back = knot.back;
+    let first = write_leg(next, leave, enter, count, back, x, buffer, 0);
+    let stem = first.at;
+    let turn = write_turn(
+        next,
+        leave,
+        enter,
+        count,
+        fair,
+        settled,
+        parts,
+        live,
+        knot,
+        &mut buffer[stem..],
+    );
+    Lengths { stem, turn }
+}
+
+// Writes the walk of a witness for some live pair of the asked set: the stem, and the loop from the byte after it. It stays where it comes to
+// a pair at which it can.
 pub fn write_walk(
     next: &[u64],
     leave: &[u64; 1024],
@@ -68,8 +100,13 @@ pub fn write_walk(
 {
     let ways = meet(asked, live);
     let x = some_pair(&ways.words);
-    let mut turn = [0u8; Lengths::TURN];
-    let found = write_loop(
+    let goal = rests(next, leave, enter, count, fair, settled, parts);
+    let near = nearest::nearest(next, leave, enter, count, live, &goal.words);
+    if words::has(near.words[x / 64], x % 64) {
+        let stem = write_rest(next, leave, enter, count, near, x, buffer);
+        return Lengths { stem, turn: 1 };
+    }
+    write_far(
         next,
         leave,
         enter,
@@ -79,12 +116,6 @@ pub fn write_walk(
         parts,
         live,
         x,
-        &mut turn,
-    );
-    let back = found.back;
-    let first = write_leg(next, leave, enter, count, back, x, buffer, 0);
-    let stem = first.at;
-    let length = found.length;
-    fill(&mut buffer[stem..], &turn, length);
-    Lengths { stem, turn: length }
+        buffer,
+    )
 }

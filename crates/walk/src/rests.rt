@@ -1,12 +1,18 @@
 // Pairs at which a run can stay for ever: they lead to themselves, and every debt is met there.
+use crate::legs::write_leg;
 use leads::halves::both;
+use nearest::Near;
 use pairs::Pairs;
 ghost use mathlib.Core.Path.{_≡_};
+ghost use mathlib.Core.Bool.{So};
 ghost use Prim.Native.Nat.{_+_, _≤_, _<_};
 ghost use lib.ListN.{length};
 ghost use Rattle.model.specs.Sets.{nodesOf};
 ghost use Rattle.nearest.specs.Graph.{movesOf};
 ghost use Rattle.walk.specs.Debts.{debtsTo};
+ghost use Rattle.nearest.specs.Ranking.{rankOf};
+ghost use Rattle.walk.specs.Legs.{Rested};
+ghost use Rattle.walk.specs.Ways.{Slope};
 ghost use Rattle.walk.specs.Rests.{staysOf, fairOf, settlesOf, Rests};
 
 // The states that the plant lets stay.
@@ -63,4 +69,26 @@ pub fn rests(
         words[v] = kept & both(leave, v, v) & both(enter, v, v) & settles(settled, parts, v);
     }
     Pairs { words }
+}
+
+// Writes the way from x down to rank 0, and then the state where it ends; how many come before that.
+pub fn write_rest(
+    next: &[u64],
+    leave: &[u64; 1024],
+    enter: &[u64; 1024],
+    count: usize,
+    near: Near,
+    x: usize,
+    out: &mut [u8],
+) -> usize
+    requires { ⌜ (count ≤ 64) × (x < 4096) × (rankOf (near .ranks) x < length (now out)) ⌝ }
+    requires slope { ⌜ Slope (movesOf (now next) (now leave) (now enter) count) (nodesOf (near .words)) (rankOf (near .ranks)) ⌝ }
+    requires inside { ⌜ So (nodesOf (near .words) x) ⌝ }
+    ensures { λ r. ⌜ Rested (movesOf (now (next .entry)) (now (leave .entry)) (now (enter .entry)) count)
+        (nodesOf (near .words)) (rankOf (near .ranks)) x (now (out .entry)) (now (out .exit)) r ⌝ }
+{
+    let way = write_leg(next, leave, enter, count, near, x, out, 0);
+    let stem = way.at;
+    out[stem] = (way.end % 64) as u8;
+    stem
 }
