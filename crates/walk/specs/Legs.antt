@@ -12,7 +12,7 @@ use Rattle.graphs.specs.Fair.{Fair}
 use Rattle.graphs.specs.Rank.{Nearest}
 use Rattle.graphs.specs.Lasso.{Tour, Ring, Trail, trail-start, trail-on, trail-end}
 use Rattle.words.specs.Over
-use Rattle.walk.specs.Rests.{Rests}
+use Rattle.walk.specs.Rests.{Resting}
 use Rattle.walk.specs.Knots.{Knotted, knotted-in}
 use Rattle.walk.specs.Written.{states, Written, written-start, written-on, written-join, written-widen, written-count, written-over}
 use Rattle.words.specs.Tests.{eq-says}
@@ -159,9 +159,10 @@ module _ {edge : Edges} {Z : Nodes} where
     }
 
     -- the stem down to where it stays
-    pub walked-rest : {S C : Nodes} {rank : ℕ → ℕ} {before now : List ℕ} {stem : ℕ} → Rests edge debts S → Nearest 4096 edge Z S C rank → So (C x)
+    pub walked-rest : {C : Nodes} {rank : ℕ → ℕ} {before now : List ℕ} {stem : ℕ} → Resting edge debts Z C rank → So (C x)
         → rank x < length before → Rested edge C rank x before now stem → Walked edge debts Z A before now stem 1
-    walked-rest {before} {stem} rests n i fits r =
+    walked-rest {before} {stem} h i fits r =
+        let n = h .near in
         let e = r .led in
         let q = r .last in
         let goal = n .ends q (e .inside) (e .ends) in
@@ -176,7 +177,7 @@ module _ {edge : Edges} {Z : Nodes} where
           lasso = record {
             knot = q;
             comes = walk-widen (n .ranked .inside) (e .written .walks);
-            turns = record { walks = on live (rests .moves q goal) (done live); moves = omega arith; meets = λ g m. (q, rests .meets q goal g m, List·Memᴰ·head refl) };
+            turns = record { walks = on live (h .rests .moves q goal) (done live); moves = omega arith; meets = λ g m. (q, h .rests .meets q goal g m, List·Memᴰ·head refl) };
           };
           stem-count = omega (arith, e .written .count);
           turn-count = refl;

@@ -19,6 +19,7 @@ use Rattle.pairs.specs.Sets.{inside-words}
 use Rattle.moves.specs.Fit.{entry}
 use Rattle.graphs.specs.Sets.{Nodes}
 use Rattle.graphs.specs.Walk.{Edges}
+use Rattle.graphs.specs.Rank.{Nearest}
 use Rattle.model.specs.Sets.{nodesOf}
 use Rattle.leads.specs.Halves.{bothOf, fromIn, toIn}
 use Rattle.sweeps.specs.Rounds.{everyOf, settledIn, goalOf}
@@ -29,6 +30,12 @@ use Rattle.walk.specs.Debts.{debtNodes, debtsTo, in-debts}
 pub record Rests (edge : Edges) (debts : List Nodes) (S : Nodes) : Type 0 where
   pub moves : (y : ℕ) → So (S y) → So (edge y y)
   pub meets : (y : ℕ) → So (S y) → (g : Nodes) → List·Memᴰ g debts → So (g y)
+
+-- the nodes of C lead to such ones, down the ranks
+pub record Resting (edge : Edges) (debts : List Nodes) (Z C : Nodes) (rank : ℕ → ℕ) : Type 0 where
+  pub goal : Nodes
+  pub rests : Rests edge debts goal
+  pub near : Nearest 4096 edge Z goal C rank
 
 -- ---- how they are found, a word at a time
 

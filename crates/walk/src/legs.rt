@@ -1,6 +1,7 @@
 // A stretch of the walk: down the ranks, written state by state.
 use nearest::Near;
 use pairs::Pairs;
+use sweeps::reach::meet;
 ghost use mathlib.Core.Path.{_≡_};
 ghost use mathlib.Core.Bool.{So};
 ghost use Prim.Native.Nat.{ℕ, _+_, _≤_, _<_};
@@ -19,6 +20,15 @@ pub fn some_pair(set: &[u64; 64]) -> usize
 {
     let ranks = [0u16; 4096];
     nearest::lower(set, &ranks, 1)
+}
+
+// A pair of both sets, which have one.
+pub fn common_pair(some: &[u64; 64], others: &[u64; 64]) -> usize
+    requires { ⌜ (length (now others) ≡ 64) × ((y : ℕ) × (So (nodesOf (now some) y) × So (nodesOf (now others) y))) ⌝ }
+    ensures { λ r. ⌜ Some (now (some .entry)) r × So (nodesOf (now (others .entry)) r) ⌝ }
+{
+    let both = meet(some, others);
+    some_pair(&both.words)
 }
 
 // The set of x alone.

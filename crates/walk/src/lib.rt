@@ -6,12 +6,11 @@ mod rests;
 mod turns;
 
 use crate::knots::find_knot;
-use crate::legs::some_pair;
+use crate::legs::common_pair;
 use crate::legs::write_leg;
-use crate::rests::rests;
+use crate::rests::ways_to_rest;
 use crate::rests::write_rest;
 use crate::turns::write_turn;
-use sweeps::reach::meet;
 ghost use mathlib.Core.Path.{_≡_};
 ghost use mathlib.Core.Bool.{So};
 ghost use Prim.Native.Nat.{ℕ, _+_, _≤_};
@@ -58,8 +57,7 @@ fn write_far(
         (now (buffer .entry)) (now (buffer .exit)) (r .stem) (r .turn) ⌝ }
 {
     let knot = find_knot(next, leave, enter, count, live, x);
-    let back = knot.back;
-    let first = write_leg(next, leave, enter, count, back, x, buffer, 0);
+    let first = write_leg(next, leave, enter, count, knot.back, x, buffer, 0);
     let stem = first.at;
     let turn = write_turn(
         next,
@@ -98,10 +96,8 @@ pub fn write_walk(
         (debtsTo (now (fair .entry)) count (now (settled .entry)) (length (now (fair .entry)) + parts)) (nodesOf (now (live .entry))) (nodesOf (now (asked .entry)))
         (now (buffer .entry)) (now (buffer .exit)) (r .stem) (r .turn) ⌝ }
 {
-    let ways = meet(asked, live);
-    let x = some_pair(&ways.words);
-    let goal = rests(next, leave, enter, count, fair, settled, parts);
-    let near = nearest::nearest(next, leave, enter, count, live, &goal.words);
+    let x = common_pair(asked, live);
+    let near = ways_to_rest(next, leave, enter, count, fair, settled, parts, live);
     if words::has(near.words[x / 64], x % 64) {
         let stem = write_rest(next, leave, enter, count, near, x, buffer);
         return Lengths { stem, turn: 1 };

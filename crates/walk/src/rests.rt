@@ -9,11 +9,11 @@ ghost use Prim.Native.Nat.{_+_, _≤_, _<_};
 ghost use lib.ListN.{length};
 ghost use Rattle.model.specs.Sets.{nodesOf};
 ghost use Rattle.nearest.specs.Graph.{movesOf};
-ghost use Rattle.walk.specs.Debts.{debtsTo};
 ghost use Rattle.nearest.specs.Ranking.{rankOf};
+ghost use Rattle.walk.specs.Debts.{debtsTo};
 ghost use Rattle.walk.specs.Legs.{Rested};
 ghost use Rattle.walk.specs.Ways.{Slope};
-ghost use Rattle.walk.specs.Rests.{staysOf, fairOf, settlesOf, Rests};
+ghost use Rattle.walk.specs.Rests.{staysOf, fairOf, settlesOf, Rests, Resting};
 
 // The states that the plant lets stay.
 fn stays(next: &[u64]) -> u64
@@ -50,7 +50,7 @@ fn settles(settled: &[u64; 384], parts: usize, v: usize) -> u64
 }
 
 // A word at a time: what stays, moves from v to v, and meets all.
-pub fn rests(
+fn rests(
     next: &[u64],
     leave: &[u64; 1024],
     enter: &[u64; 1024],
@@ -69,6 +69,26 @@ pub fn rests(
         words[v] = kept & both(leave, v, v) & both(enter, v, v) & settles(settled, parts, v);
     }
     Pairs { words }
+}
+
+// The live pairs that lead to one of these, and the ways there.
+pub fn ways_to_rest(
+    next: &[u64],
+    leave: &[u64; 1024],
+    enter: &[u64; 1024],
+    count: usize,
+    fair: &[u64],
+    settled: &[u64; 384],
+    parts: usize,
+    live: &[u64; 64],
+) -> Near
+    requires { ⌜ (count ≤ 64) × (parts ≤ 6) × (length (now live) ≡ 64) ⌝ }
+    ensures { λ r. ⌜ Resting (movesOf (now (next .entry)) (now (leave .entry)) (now (enter .entry)) count)
+        (debtsTo (now (fair .entry)) count (now (settled .entry)) (length (now (fair .entry)) + parts))
+        (nodesOf (now (live .entry))) (nodesOf (r .words)) (rankOf (r .ranks)) ⌝ }
+{
+    let goal = rests(next, leave, enter, count, fair, settled, parts);
+    nearest::nearest(next, leave, enter, count, live, &goal.words)
 }
 
 // Writes the way from x down to rank 0, and then the state where it ends; how many come before that.

@@ -71,7 +71,6 @@ pub fn write_turn(
         (debtsTo (now (fair .entry)) count (now (settled .entry)) (length (now (fair .entry)) + parts)) (nodesOf (now (live .entry)))
         (knot .at) (now (out .entry)) (now (out .exit)) r ⌝ }
 {
-    let q = knot.at;
     let legs = write_legs(
         next,
         leave,
@@ -81,15 +80,12 @@ pub fn write_turn(
         settled,
         parts,
         live,
-        q,
+        knot.at,
         out,
     );
-    let back = knot.back;
-    let a = legs.end;
-    let at = legs.at;
-    let ways = nearest::onward(next, leave, enter, count, &back.words, a);
+    let ways = nearest::onward(next, leave, enter, count, &knot.back.words, legs.end);
     let y = some_pair(&ways.words);
-    out[at] = (a % 64) as u8;
-    let last = write_leg(next, leave, enter, count, back, y, out, at + 1);
-    last.at
+    let at = legs.at;
+    out[at] = (legs.end % 64) as u8;
+    write_leg(next, leave, enter, count, knot.back, y, out, at + 1).at
 }
