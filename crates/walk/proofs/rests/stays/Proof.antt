@@ -1,5 +1,5 @@
 -- `rests::stays`: `found` is the union of what was found at the states passed.
-use mathlib.Core.Path.{_≡_, refl}
+use mathlib.Core.Path.{_≡_, refl, ap₂}
 use Prim.Native.Nat.{_≤_, _-_, _^_, zero-le}
 use native.Mathlib.Omega.{arith}
 use native.Mathlib.Nat.{le-antisymm}
@@ -7,7 +7,7 @@ use lib.Bits.{bitAnd}
 use lib.ListN.{getD}
 use borrow.Author.Needs.{needs}
 use Rattle.words.specs.Below.{unionBelow}
-use Rattle.words.specs.Unions.{union-more}
+use Rattle.words.specs.Unions.{union-turn}
 use Rattle.walk.specs.Rests.{staysOf}
 use Rattle.walk.proofs.rests.stays.Statement.{statement}
 use Rattle.walk.proofs.rests.stays.Tie as tie
@@ -23,7 +23,7 @@ unfolding unionBelow
 loop-holds c = (zero-le, refl)
 
 loop-again : tie.Need-loop-again Inv-loop μ-loop
-loop-again c = (omega arith, rw union-more (cc))
+loop-again c = (omega arith, union-turn _ _ _ _ (c .before .before .before .loop .inv .1) (ap₂ bitAnd (c .before .entry .ensures) (c .single .ensures)))
 
 returns : tie.Need-returns Inv-loop μ-loop
 unfolding staysOf
