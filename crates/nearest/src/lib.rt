@@ -27,15 +27,6 @@ pub struct Near {
     pub ranks: [u16; 4096],
 }
 
-impl Near {
-    // Nothing is found.
-    pub const NONE: Near = Near {
-        words: [0u64; 64],
-        last: [0u64; 64],
-        ranks: [0u16; 4096],
-    };
-}
-
 // The valuations below count at which the set has pairs.
 fn held_at(count: usize, set: &[u64; 64]) -> u64
     requires { ⌜ count ≤ 64 ⌝ }
