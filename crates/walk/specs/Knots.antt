@@ -64,7 +64,7 @@ module _ {edge : Edges} {Z : Nodes} {x q : ℕ} {C : Nodes} {rank : ℕ → ℕ}
   pub knotted-in : So (C x)
   knotted-in = to-iff (h .near .closure) x .1 (h .comes)
 
-  -- and so is q
+  -- the same of q itself
   pub knotted-there : Knotted edge Z q q C rank
   knotted-there = record { comes = stay (last-in (h .comes .1)); near = h .near; home = h .home }
 

@@ -1,4 +1,4 @@
--- The stretches of the walk: down the ranks to a debt, by way of each debt, and back to where the loop began.
+-- The stretches of the walk: down the ranks to a debt or to where it stays, by way of each debt, and back to where the loop began.
 use Prim.Native.Nat.{ℕ, suc, _+_, _*_, _%_, _≤_, _<_}
 use native.Mathlib.Omega.{arith}
 use mathlib.Core.Path.{_≡_, refl, _∙_}

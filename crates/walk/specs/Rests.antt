@@ -51,9 +51,11 @@ fairOf fair = sharedBelow (2 ^ 64 - 1) (length fair) (λ k. getD fair k 0)
 unfoldable pub settlesOf : List ℕ → ℕ → ℕ → ℕ
 settlesOf settled parts v = sharedBelow (2 ^ 64 - 1) parts (λ k. entry settled v k)
 
+-- a member of both is one of each
 and-at : (a b s : ℕ) → So (bit (bitAnd a b) s) → So (bit a s) × So (bit b s)
 and-at a b s i = and-says (bit a s) (bit b s) .0 (rw bit-and at i)
 
+-- the members of these words
 stays-at : (next : List ℕ) (s : ℕ) → So (bit (staysOf next) s) → So (bit (getD next s 0) s)
 unfolding staysOf
 stays-at next s i =
@@ -77,6 +79,7 @@ module _ (next leave enter fair settled : List ℕ) (parts : ℕ) where
     abbrev v : ℕ
     v = y / 64
 
+    -- what is known of such a pair
     parts-of : (v < count) × So (bit (staysOf next) s) × So (bit (fairOf fair) s) × So (bit (bothOf leave v v) s) × So (bit (bothOf enter v v) s) × So (bit (settlesOf settled parts v) s)
     parts-of =
         let (low, all) = and-says (ltb v count) (bit (restsAt v) s) .0 (rw (is, inside-words count restsAt few s v) at i) in
@@ -104,6 +107,7 @@ module _ (next leave enter fair settled : List ℕ) (parts : ℕ) where
           (shared-at parts (λ k. entry settled v k) s (parts-of .5) (k - length fair) (omega arith))
     ]
 
+  -- the pairs gathered are such
   pub rests-of : (count : ℕ) → count ≤ 64 → {words : List ℕ} → words ≡ wordsBelow count restsAt
       → Rests (movesOf next leave enter count) (debtsTo fair count settled (length fair + parts)) (nodesOf words)
   rests-of count few is = record {
