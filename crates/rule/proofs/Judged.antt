@@ -15,7 +15,7 @@ use Rattle.meaning.specs.Formula.{Formula, size, parts}
 use Rattle.syntax.specs.declared.Rule.{Rule}
 use Rattle.syntax.specs.declared.Scan.{Scan}
 use Rattle.syntax.specs.declared.Scan.the-variants.{Good, Bad}
-use Rattle.syntax.specs.Grammar.{Says, Refused, Unknown}
+use Rattle.syntax.specs.Grammar.{SaidBy, Refused, Unknown}
 use Rattle.syntax.specs.Postfix.{postfix}
 use Rattle.syntax.specs.Print.{Below}
 use Rattle.syntax.specs.Scan.{scan}
@@ -52,7 +52,7 @@ module _ (f : Formula) where
   limits-fine h g = ap limited (written-rule f h) ∙ limited-fine (ruleOf f) h (omega (arith, parts-held f))
 
 -- the scanner is good on a text of the grammar
-good : {f : Formula} {s : List ℕ} → Says f s → scan s ≡ Good
+good : {f : Formula} {s : List ℕ} → SaidBy f s → scan s ≡ Good
 good {f} {s} r = go (scan s) refl
   where
     go : (x : Scan) → scan s ≡ x → scan s ≡ Good
@@ -68,10 +68,10 @@ module _ (q : ℕ) (s : List ℕ) where
     reads-none k r = go (scan s) refl
       where
         go : (x : Scan) → scan s ≡ x → textRead s q ≡ refusedAs RuleText k
-        go Good e = let g : (f : Formula) × Says f s = rw e at (scanned s) in absurd (r .outside (g .0) (g .1))
+        go Good e = let g : (f : Formula) × SaidBy f s = rw e at (scanned s) in absurd (r .outside (g .0) (g .1))
         go (Bad m) e = read-bad s q m short e ∙ ap (refusedAs RuleText) (one-place s m k (rw e at (scanned s)) r)
 
-    module _ (some : 1 ≤ q) {f : Formula} (says : Says f s) where
+    module _ (some : 1 ≤ q) {f : Formula} (says : SaidBy f s) where
       pub reads-unknown : (k : ℕ) → Unknown q s k → textRead s q ≡ refusedAs Proposition k
       reads-unknown k u = go (unknownAt q 0 s) refl
         where
@@ -79,7 +79,7 @@ module _ (q : ℕ) (s : List ℕ) where
           go Nowhere e = absurd (omega (arith, u .beyond, none-unknown q s 0 e k (u .which) (u .here)))
           go (At m) e = read-good s q short (good says) ∙ named-unknown s q m e ∙ ap (refusedAs Proposition) (one-unknown q s m k (first-unknown q some s m e) u)
 
-    module _ {f : Formula} (says : Says f s) (below : Below q f) where
+    module _ {f : Formula} (says : SaidBy f s) (below : Below q f) where
       reads-known : textRead s q ≡ limited (written emptyRule (postfix f))
       reads-known = read-good s q short (good says) ∙ named-fine s q (below-exactly q says .1 below) ∙ ap (λ os. limited (written emptyRule os)) (parsed says)
 
@@ -96,25 +96,25 @@ module _ (q : ℕ) (s : List ℕ) where
 pub data Judged (q : ℕ) (s : List ℕ) : Type 0 where
   too-long : 512 < length s → Judged q s
   no-text : (k : ℕ) → length s ≤ 512 → Refused s k → Judged q s
-  unknown-name : (f : Formula) (k : ℕ) → length s ≤ 512 → Says f s → Unknown q s k → Judged q s
-  too-large : (f : Formula) → length s ≤ 512 → Says f s → Below q f → 32 < size f → Judged q s
-  too-many : (f : Formula) → length s ≤ 512 → Says f s → Below q f → size f ≤ 32 → 6 < parts f → Judged q s
-  a-rule : (f : Formula) → length s ≤ 512 → Says f s → Below q f → size f ≤ 32 → parts f ≤ 6 → Judged q s
+  unknown-name : (f : Formula) (k : ℕ) → length s ≤ 512 → SaidBy f s → Unknown q s k → Judged q s
+  too-large : (f : Formula) → length s ≤ 512 → SaidBy f s → Below q f → 32 < size f → Judged q s
+  too-many : (f : Formula) → length s ≤ 512 → SaidBy f s → Below q f → size f ≤ 32 → 6 < parts f → Judged q s
+  a-rule : (f : Formula) → length s ≤ 512 → SaidBy f s → Below q f → size f ≤ 32 → parts f ≤ 6 → Judged q s
 
 pub judged : (q : ℕ) → 1 ≤ q → (s : List ℕ) → Judged q s
 judged q some s = on-length (ltb 512 (length s)) refl
   where
-    on-limits : length s ≤ 512 → (f : Formula) → Says f s → Below q f → (b c : Bool) → ltb 32 (size f) ≡ b → ltb 6 (parts f) ≡ c → Judged q s
+    on-limits : length s ≤ 512 → (f : Formula) → SaidBy f s → Below q f → (b c : Bool) → ltb 32 (size f) ≡ b → ltb 6 (parts f) ≡ c → Judged q s
     on-limits h f says below true c e d = too-large f h says below (ltb-true 32 (size f) e)
     on-limits h f says below false true e d = too-many f h says below (ltb-false 32 (size f) e) (ltb-true 6 (parts f) d)
     on-limits h f says below false false e d = a-rule f h says below (ltb-false 32 (size f) e) (ltb-false 6 (parts f) d)
 
-    on-names : length s ≤ 512 → (f : Formula) → Says f s → (x : Found) → unknownAt q 0 s ≡ x → Judged q s
+    on-names : length s ≤ 512 → (f : Formula) → SaidBy f s → (x : Found) → unknownAt q 0 s ≡ x → Judged q s
     on-names h f says (At k) e = unknown-name f k h says (first-unknown q some s k e)
     on-names h f says Nowhere e = on-limits h f says (below-exactly q says .0 e) (ltb 32 (size f)) (ltb 6 (parts f)) refl refl
 
     on-scan : length s ≤ 512 → (x : Scan) → scan s ≡ x → Judged q s
-    on-scan h Good e = let y : (f : Formula) × Says f s = rw e at (scanned s) in on-names h (y .0) (y .1) (unknownAt q 0 s) refl
+    on-scan h Good e = let y : (f : Formula) × SaidBy f s = rw e at (scanned s) in on-names h (y .0) (y .1) (unknownAt q 0 s) refl
     on-scan h (Bad k) e = no-text k h (rw e at (scanned s))
 
     on-length : (b : Bool) → ltb 512 (length s) ≡ b → Judged q s
@@ -124,7 +124,7 @@ judged q some s = on-length (ltb 512 (length s)) refl
 -- what an accepted text says
 pub record Accepts (q : ℕ) (s : List ℕ) (r : Rule) : Type 0 where
   pub formula : Formula
-  pub says : Says formula s
+  pub says : SaidBy formula s
   pub below : Below q formula
   pub small : size formula ≤ 32
   pub few : parts formula ≤ 6

@@ -15,7 +15,7 @@ use Rattle.syntax.specs.declared.Token.{Token}
 use Rattle.syntax.specs.declared.Token.the-variants.{Leaf, Prefix, Infix, Open, Close, End}
 use Rattle.syntax.specs.declared.Sign.{Sign}
 use Rattle.syntax.specs.declared.Sign.the-variants.{Blank, Digit, Letter, Before, Between, Dash, Angle, Left, Right, Other}
-use Rattle.syntax.specs.Grammar.{names, sp-false, sp-true, sp-prop, sp-not, sp-next, sp-finally, sp-globally, sp-until, sp-release, sp-and, sp-or, sp-arrow, sp-open, sp-close, Spells, end, space, token, Level, Side, Atom, is-false, is-true, is-prop, Unary, is-not, is-next, is-finally, is-globally, Binary, is-implies, is-or, is-and, is-until, is-release, Text, atom, group, unary, lefts, rights, tight, Says, Names, Unknown}
+use Rattle.syntax.specs.Grammar.{names, sp-false, sp-true, sp-prop, sp-not, sp-next, sp-finally, sp-globally, sp-until, sp-release, sp-and, sp-or, sp-arrow, sp-open, sp-close, Spells, end, space, token, Level, Side, Atom, is-false, is-true, is-prop, Unary, is-not, is-next, is-finally, is-globally, Binary, is-implies, is-or, is-and, is-until, is-release, Text, atom, group, unary, lefts, rights, tight, SaidBy, Names, Unknown}
 use Rattle.syntax.specs.Bytes.{signOf, digitOf}
 use Rattle.syntax.specs.Print.{Below}
 use Rattle.syntax.proofs.Lexing.{sign-digit, Byte, byte-of, both-true}
@@ -156,7 +156,7 @@ module _ (q : ℕ) where
   none-exactly (token {s = s} sp-arrow r) i = passed (over-byte i 45 (λ e. omega arith) (62 ∷ s) ∙ over-byte (i + 1) 62 (λ e. omega arith) s) (none-exactly r (i + 1 + 1))
   none-exactly (token {s = s} (sp-prop k h) r) i = met i k (at-prop i k h s) (none-exactly r (i + 1 + 1))
 
-  pub below-exactly : {f : Formula} {s : List ℕ} → Says f s → (unknownAt q 0 s ≡ Nowhere) ↔ Below q f
+  pub below-exactly : {f : Formula} {s : List ℕ} → SaidBy f s → (unknownAt q 0 s ≡ Nowhere) ↔ Below q f
   below-exactly r =
       let a = none-exactly (r .spells) 0 in
       let b = text-below (r .text) in

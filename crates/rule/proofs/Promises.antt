@@ -1,5 +1,5 @@
 -- What the calls on rules promise. Their contracts are equations: read_rule answers `ruleRead`, is_valid `validOf`, print_rule `printAnswer`, and leaves `printBuffer`.
--- What these mean is said here in 01's words: `syntax/specs/Grammar` says what a text of the grammar is (`Says f s`: the text s says the rule f), `syntax/specs/Value` what a rule's
+-- What these mean is said here in 01's words: `syntax/specs/Grammar` says what a text of the grammar is (`SaidBy f s`: the rule f is said by the text s), `syntax/specs/Value` what a rule's
 -- value is (`ruleOf f`), `specs/Paper` what each refusal is given for (`Because`), and what it is for a text to be accepted (`Takes`).
 use Prim.Native.Nat.{ℕ, _≤_, _<_}
 use mathlib.Core.Path.{_≡_, sym, ap, subst, _∙_}
@@ -15,7 +15,7 @@ use Rattle.answers.specs.Paper.{kindNumber}
 use Rattle.meaning.specs.Formula.{Formula, size, parts}
 use Rattle.plant.specs.declared.Plant.{Plant}
 use Rattle.syntax.specs.declared.Rule.{Rule}
-use Rattle.syntax.specs.Grammar.{names, Says, Refused, Unknown}
+use Rattle.syntax.specs.Grammar.{names, SaidBy, Refused, Unknown}
 use Rattle.syntax.specs.Print.{print, Below}
 use Rattle.syntax.specs.Value.{ruleOf}
 use Rattle.syntax.proofs.OnePlace.{one-place, one-unknown}
@@ -54,7 +54,7 @@ module _ (p : Plant) (fair label next : List ℕ) where
   refused-exactly s = answering.refused-exactly p fair label next s
 
 -- the grammar is unambiguous: a text says one rule
-pub one-tree : (s : List ℕ) (f g : Formula) → Says f s → Says g s → f ≡ g
+pub one-tree : (s : List ℕ) (f g : Formula) → SaidBy f s → SaidBy g s → f ≡ g
 one-tree s f g a b = one-rule a b
 
 -- the place of refusal 5 is the only one of its kind, and so is that of refusal 6

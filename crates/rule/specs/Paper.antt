@@ -10,7 +10,7 @@ use Rattle.meaning.specs.Limits.{AcceptedTable}
 use Rattle.plant.specs.declared.Plant.{Plant}
 use Rattle.plant.specs.Table.{plantOf, Lengths, BitBeyond}
 use Rattle.syntax.specs.declared.Rule.{Rule}
-use Rattle.syntax.specs.Grammar.{Says, Refused, Unknown}
+use Rattle.syntax.specs.Grammar.{SaidBy, Refused, Unknown}
 use Rattle.syntax.specs.Print.{Below}
 use Rattle.syntax.specs.Value.{ruleOf}
 
@@ -23,7 +23,7 @@ pub record Beside (p : Plant) (fair label next : List ℕ) : Type 0 where
 pub record Reads (p : Plant) (fair label next s : List ℕ) (f : Formula) : Type 0 where
   pub beside : Beside p fair label next
   pub short : length s ≤ 512
-  pub says : Says f s
+  pub says : SaidBy f s
 
 -- s is accepted, and gives r: the value of the rule that it says, which is within the limits
 pub record Takes (p : Plant) (fair label next s : List ℕ) (r : Rule) : Type 0 where

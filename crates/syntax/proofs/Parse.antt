@@ -8,7 +8,7 @@ use Rattle.meaning.specs.Formula.{Formula, never, always, prop, neg, next, fina
 use Rattle.syntax.specs.declared.Op.{Op}
 use Rattle.syntax.specs.declared.Op.the-variants.{Not, Next, Finally, Globally, Until, Release, And, Or, Implies}
 use Rattle.syntax.specs.declared.Token.{Token}
-use Rattle.syntax.specs.Grammar.{Spelt, sp-false, sp-true, sp-prop, sp-not, sp-next, sp-finally, sp-globally, sp-until, sp-release, sp-and, sp-or, sp-arrow, sp-open, sp-close, Spells, end, space, token, arrows, Says}
+use Rattle.syntax.specs.Grammar.{Spelt, sp-false, sp-true, sp-prop, sp-not, sp-next, sp-finally, sp-globally, sp-until, sp-release, sp-and, sp-or, sp-arrow, sp-open, sp-close, Spells, end, space, token, arrows, SaidBy}
 use Rattle.syntax.specs.Postfix.{postfix, decode}
 use Rattle.syntax.specs.Reader.{read, parse}
 use Rattle.syntax.proofs.Lexing.{lexed}
@@ -38,7 +38,7 @@ few-tokens (space r) = omega (arith, few-tokens r)
 few-tokens (token {b = b} {s = s} t r) = simp length-append (omega (arith, some-byte t, few-tokens r))
 
 -- the reader writes the rule that the text says
-pub parsed : {f : Formula} {s : List ℕ} → Says f s → parse s ≡ postfix f
+pub parsed : {f : Formula} {s : List ℕ} → SaidBy f s → parse s ≡ postfix f
 unfolding parse height
 parsed {f} {s} r =
     let e = reads (r .text) in
@@ -74,5 +74,5 @@ unfolding first-or
 postfix-one f g e = ap first-or (sym (decode-one f) ∙ ap (λ os. decode os []) e ∙ decode-one g)
 
 -- a text says one rule only
-pub one-rule : {f g : Formula} {s : List ℕ} → Says f s → Says g s → f ≡ g
+pub one-rule : {f g : Formula} {s : List ℕ} → SaidBy f s → SaidBy g s → f ≡ g
 one-rule {f} {g} p q = postfix-one f g (sym (parsed p) ∙ parsed q)

@@ -18,7 +18,7 @@ use Rattle.syntax.specs.declared.Mode.the-variants.{Operand, Number, Ope
 use Rattle.syntax.specs.declared.State.{State}
 use Rattle.syntax.specs.declared.Scan.{Scan}
 use Rattle.syntax.specs.declared.Scan.the-variants.{Good, Bad}
-use Rattle.syntax.specs.Grammar.{Spelt, sp-false, sp-true, sp-prop, sp-not, sp-next, sp-finally, sp-globally, sp-until, sp-release, sp-and, sp-or, sp-arrow, sp-open, sp-close, Spells, end, space, token, Level, Text, atom, group, unary, lefts, rights, tight, Says, Viable, Refused}
+use Rattle.syntax.specs.Grammar.{Spelt, sp-false, sp-true, sp-prop, sp-not, sp-next, sp-finally, sp-globally, sp-until, sp-release, sp-and, sp-or, sp-arrow, sp-open, sp-close, Spells, end, space, token, Level, Text, atom, group, unary, lefts, rights, tight, SaidBy, Viable, Refused}
 use Rattle.syntax.specs.Bytes.{signOf}
 use Rattle.syntax.specs.Scan.{at, stuck, closes, digit, moved, step, run, start, ends, dead, scanFrom, scan}
 use Rattle.syntax.proofs.Lexing.{sign-digit}
@@ -114,7 +114,7 @@ only-spaces end = refl
 only-spaces (space r) = only-spaces r
 
 -- the scanner takes each text
-pub taken : {f : Formula} {s : List ℕ} → Says f s → run start s ≡ at Operator 0
+pub taken : {f : Formula} {s : List ℕ} → SaidBy f s → run start s ≡ at Operator 0
 taken {s = s} r =
     let o = over (r .text) [] {s = s} (rw (append-nil (r .tokens)) (r .spells)) in
     o .ran 0 ∙ only-spaces (o .spells)
@@ -171,7 +171,7 @@ not-viable p e v =
 
 -- what the answer of the scanner says of a text
 abbrev pub Judged : List ℕ → Scan → Type 0
-Judged s Good = (f : Formula) × Says f s
+Judged s Good = (f : Formula) × SaidBy f s
 Judged s (Bad k) = Refused s k
 
 choose : (s : List ℕ) (t : Bool) (x y : Scan) → (t ≡ true → Judged s x) → (t ≡ false → Judged s y) → Judged s (cond t x y)

@@ -8,7 +8,7 @@ use Rattle.meaning.specs.Formula.{Formula, never, always, prop, neg, next, fina
 use Rattle.syntax.specs.declared.Op.{Op}
 use Rattle.syntax.specs.declared.Token.{Token}
 use Rattle.syntax.specs.declared.Token.the-variants.{Leaf, Prefix, Infix}
-use Rattle.syntax.specs.Grammar.{names, Spelt, sp-false, sp-true, sp-prop, sp-not, sp-next, sp-finally, sp-globally, sp-until, sp-release, sp-and, sp-or, sp-arrow, sp-open, sp-close, Spells, end, space, token, Level, arrows, prefixes, tighter, Side, Atom, is-false, is-true, is-prop, Unary, is-not, is-next, is-finally, is-globally, Binary, is-implies, is-or, is-and, is-until, is-release, Text, atom, group, unary, tight, Says}
+use Rattle.syntax.specs.Grammar.{names, Spelt, sp-false, sp-true, sp-prop, sp-not, sp-next, sp-finally, sp-globally, sp-until, sp-release, sp-and, sp-or, sp-arrow, sp-open, sp-close, Spells, end, space, token, Level, arrows, prefixes, tighter, Side, Atom, is-false, is-true, is-prop, Unary, is-not, is-next, is-finally, is-globally, Binary, is-implies, is-or, is-and, is-until, is-release, Text, atom, group, unary, tight, SaidBy}
 use Rattle.syntax.specs.Postfix.{postfix}
 use Rattle.syntax.specs.Print.{inside, print, Below}
 use Rattle.syntax.specs.Reader.{parse}
@@ -67,7 +67,7 @@ shown (and a b) h = with-infix is-and sp-and (shown a (h .0)) (shown b (h .1))
 shown (or a b) h = with-infix is-or sp-or (shown a (h .0)) (shown b (h .1))
 shown (implies a b) h = with-infix is-implies sp-arrow (shown a (h .0)) (shown b (h .1))
 
-pub printed : (f : Formula) → Below names f → Says f (print f)
+pub printed : (f : Formula) → Below names f → SaidBy f (print f)
 printed f h = let r = shown f h in record { tokens = r .tokens; spells = r .spells; text = loosest (r .text) }
 
 -- a printed rule reads back as the rule

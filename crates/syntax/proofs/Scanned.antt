@@ -13,7 +13,7 @@ use Rattle.syntax.specs.declared.Sign.the-variants.{Blank, Digit, Letter
 use Rattle.syntax.specs.declared.Mode.{Mode}
 use Rattle.syntax.specs.declared.Mode.the-variants.{Operand, Number, Operator, Arrow, Stuck}
 use Rattle.syntax.specs.declared.State.{State}
-use Rattle.syntax.specs.Grammar.{Spelt, sp-false, sp-true, sp-prop, sp-not, sp-next, sp-finally, sp-globally, sp-until, sp-release, sp-and, sp-or, sp-arrow, sp-open, sp-close, Spells, end, space, token, Level, Side, Atom, is-false, is-true, is-prop, Unary, is-not, is-next, is-finally, is-globally, Binary, is-implies, is-or, is-and, is-until, is-release, Says}
+use Rattle.syntax.specs.Grammar.{Spelt, sp-false, sp-true, sp-prop, sp-not, sp-next, sp-finally, sp-globally, sp-until, sp-release, sp-and, sp-or, sp-arrow, sp-open, sp-close, Spells, end, space, token, Level, Side, Atom, is-false, is-true, is-prop, Unary, is-not, is-next, is-finally, is-globally, Binary, is-implies, is-or, is-and, is-until, is-release, SaidBy}
 use Rattle.syntax.specs.Bytes.{signOf}
 use Rattle.syntax.specs.Scan.{at, lone, closes, operand, digit, operator, angle, moved, step, run, start}
 use Rattle.syntax.proofs.Lexing.{Byte, byte-of}
@@ -147,7 +147,7 @@ ran st p [] w = rw append-nil w
 ran st p (b ∷ s) w = rw append-assoc at (ran (step (st .mode) (st .depth) (signOf b)) (p ++ b ∷ []) s (stepped (st .mode) (st .depth) p b w))
 
 -- what the scanner takes is a text
-pub built : (s : List ℕ) → run start s ≡ at Operator 0 → (f : Formula) × Says f s
+pub built : (s : List ℕ) → run start s ≡ at Operator 0 → (f : Formula) × SaidBy f s
 unfolding Has
 built s e =
     let w : Seen (run start s .mode) (run start s .depth) s = ran start [] s (record { tokens = []; spells = end; wants = wants-start }) in

@@ -85,8 +85,8 @@ pub data Text : Level → Formula → List Token → Type 0 where
       → Binary l right o j → Text (tighter l) f s → Text l g t → Text l (j f g) (s ++ Infix o ∷ t)
   tight : {l : Level} {f : Formula} {s : List Token} → Text (tighter l) f s → Text l f s
 
--- the text s is of the grammar, and says f
-pub record Says (f : Formula) (s : List ℕ) : Type 0 where
+-- the rule f is said by the text s, which is of the grammar
+pub record SaidBy (f : Formula) (s : List ℕ) : Type 0 where
   pub tokens : List Token
   pub spells : Spells tokens s
   pub text : Text arrows f tokens
@@ -95,11 +95,11 @@ pub record Says (f : Formula) (s : List ℕ) : Type 0 where
 pub record Viable (p : List ℕ) : Type 0 where
   pub rest : List ℕ
   pub rule : Formula
-  pub says : Says rule (p ++ rest)
+  pub says : SaidBy rule (p ++ rest)
 
 -- refusal 5 at place k: s is of no rule; what stands before k begins a text; with the byte at k it does not, or there is none
 pub record Refused (s : List ℕ) (k : ℕ) : Type 0 where
-  pub outside : (f : Formula) → Says f s → ⊥
+  pub outside : (f : Formula) → SaidBy f s → ⊥
   pub before : Viable (take k s)
   pub here : (k ≡ length s) ⊎ ((k < length s) × (Viable (take (suc k) s) → ⊥))
 
