@@ -228,6 +228,14 @@ fn bytes(file: &mut File) -> &mut Vec<u8> {
     }
 }
 
+/// The bytes of a file, if it can be read.
+fn held(file: &File) -> Vec<u8> {
+    match file {
+        File::Bytes(bytes) | File::Linked(bytes) => bytes.clone(),
+        _ => vec![],
+    }
+}
+
 /// A case whose texts are good.
 fn plain(dice: &mut Dice) -> Files {
     let (states, parts) = *dice.pick(&[(1, 6), (2, 5), (3, 6), (4, 3), (5, 6), (7, 4), (9, 3), (16, 3), (24, 2), (40, 2), (64, 1)]);
@@ -464,24 +472,72 @@ fn odd_files(dice: &mut Dice) -> Files {
     };
     for _ in 0..dice.from(1, 2) {
         let file = match dice.below(3) { 0 => &mut files.plant, 1 => &mut files.rule, _ => &mut files.log };
-        let old = match file { File::Bytes(b) => b.clone(), _ => vec![] };
         *file = match dice.below(6) {
             0 | 1 => File::Missing,
             2 => File::Folder,
             3 => File::Dangling,
             4 => File::Failing,
-            _ => File::Linked(old),
+            _ => File::Linked(held(file)),
         };
     }
     files
 }
 
-/// A file that this user may not open.
+/// The families in which a text is refused by this number, or taken, if it is 0.
+fn that_give(number: usize) -> &'static [fn(&mut Dice) -> Files] {
+    match number {
+        0 => &[small],
+        2 => &[damaged_plant],
+        3 => &[damaged_plant, sizes],
+        4 => &[sizes],
+        5 => &[damaged_rule, sizes],
+        6..=8 => &[damaged_rule, rule_at_limits],
+        10 | 12 => &[damaged_log, sizes],
+        _ => &[odd_files, sizes],
+    }
+}
+
+/// The numbers by which plant, rule and log may be refused, two or three of them together (0 for a text that is taken): first each two, then each three.
+fn together() -> Vec<[usize; 3]> {
+    let mut all = Vec::new();
+    for plant in [0, 2, 3, 14] {
+        for rule in [0, 4, 5, 6, 7, 8, 14] {
+            all.extend([0, 10, 12, 14].map(|log| [plant, rule, log]));
+        }
+    }
+    let refused = |numbers: &[usize; 3]| numbers.iter().filter(|n| **n > 0).count();
+    all.retain(|numbers| refused(numbers) > 1);
+    all.sort_by_key(refused);
+    all
+}
+
+/// Two or three texts that are refused, in each way in turn. Each comes from a case of another family, as one that is refused so beside this table.
+fn several_damaged(dice: &mut Dice, turn: usize) -> Files {
+    let ways = together();
+    let numbers = ways[turn % ways.len()];
+    let mut files = small(dice);
+    // Beside a table with all propositions no rule is refused by 6.
+    while files.read_plant().map_or(true, |plant| plant.props == 8) {
+        files = small(dice);
+    }
+    while files.refusals()[0] != numbers[0] {
+        files.plant = dice.pick(that_give(numbers[0]))(dice).plant;
+    }
+    while files.refusals()[1] != numbers[1] {
+        files.rule = dice.pick(that_give(numbers[1]))(dice).rule;
+    }
+    while files.refusals()[2] != numbers[2] {
+        files.log = dice.pick(that_give(numbers[2]))(dice).log;
+    }
+    files
+}
+
+/// A file that this user may not open, in some cases beside other texts that are refused.
 pub fn forbidden(number: usize) -> Case {
     let mut dice = Dice::new(77, number as u64);
-    let mut files = small(&mut dice);
+    let mut files = if number % 8 < 5 { small(&mut dice) } else { several_damaged(&mut dice, number) };
     let file = match number % 4 { 0 => return Case { kind: "as another user", files, given: None }, 1 => &mut files.plant, 2 => &mut files.rule, _ => &mut files.log };
-    *file = File::Forbidden(bytes(file).clone());
+    *file = File::Forbidden(held(file));
     Case { kind: "forbidden", files, given: None }
 }
 
@@ -513,6 +569,12 @@ pub const GIVEN: &[(&str, &str, &str, &str)] = &[
     (W, "XXXXXXXp0", "", "refused=8 place=0\n"),
 ];
 
+/// The families of cases, and in how many ways (as `refusals` tells them) their texts must be refused at least, or the family tries too little.
+pub const FAMILIES: &[(&str, usize)] = &[
+    ("given by the paper", 4), ("plain", 1), ("small", 1), ("chains", 1), ("large", 1), ("far", 1), ("damaged plant", 3), ("damaged rule", 3),
+    ("rule at limits", 4), ("damaged log", 3), ("sizes", 8), ("odd files", 15), ("several damaged", 99),
+];
+
 /// Case `number` of a seed; the first ones are the paper's own.
 pub fn case(seed: u64, number: usize) -> Case {
     if let Some((plant, rule, log, out)) = GIVEN.get(number) {
@@ -521,15 +583,16 @@ pub fn case(seed: u64, number: usize) -> Case {
     }
     let mut dice = Dice::new(seed, number as u64);
     let (kind, files) = match number % 40 {
-        0..=9 => ("plain", plain(&mut dice)),
-        10..=14 => ("small", small(&mut dice)),
-        15..=19 => ("chains", chains(&mut dice)),
-        20..=23 => ("damaged plant", damaged_plant(&mut dice)),
-        24..=28 => ("damaged rule", damaged_rule(&mut dice)),
-        29 | 30 => ("rule at limits", rule_at_limits(&mut dice)),
-        31..=33 => ("damaged log", damaged_log(&mut dice)),
-        34..=36 => ("sizes", sizes(&mut dice)),
-        37 | 38 => ("odd files", odd_files(&mut dice)),
+        0..=6 => ("plain", plain(&mut dice)),
+        7..=10 => ("small", small(&mut dice)),
+        11..=15 => ("chains", chains(&mut dice)),
+        16..=19 => ("damaged plant", damaged_plant(&mut dice)),
+        20..=24 => ("damaged rule", damaged_rule(&mut dice)),
+        25 | 26 => ("rule at limits", rule_at_limits(&mut dice)),
+        27..=29 => ("damaged log", damaged_log(&mut dice)),
+        30..=32 => ("sizes", sizes(&mut dice)),
+        33 | 34 => ("odd files", odd_files(&mut dice)),
+        place @ 35..=38 => ("several damaged", several_damaged(&mut dice, number / 40 * 4 + place - 35)),
         _ if number % 200 == 39 => ("large", large(&mut dice)),
         _ if number % 80 == 79 => ("far", far(&mut dice)),
         _ => ("plain", plain(&mut dice)),

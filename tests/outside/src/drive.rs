@@ -1,5 +1,6 @@
 //! Runs the program on each case in a folder of its own and judges what it writes: lamps are compared byte by byte, runs are checked.
 
+use std::collections::{BTreeMap, BTreeSet};
 use std::fs;
 use std::os::unix::fs::{symlink, PermissionsExt};
 use std::os::unix::process::CommandExt;
@@ -9,7 +10,7 @@ use std::sync::atomic::{AtomicUsize, Ordering};
 use std::sync::Mutex;
 use std::time::{Duration, Instant};
 
-use crate::cases::{case, forbidden, Case};
+use crate::cases::{case, forbidden, Case, FAMILIES};
 use crate::watch::{output, File};
 
 /// The longest that the program may take for one case.
@@ -98,6 +99,31 @@ pub fn runs(case: &Case, got: &str) -> Option<String> {
     crate::runs::fault(&case.files, got)
 }
 
+/// For each family, how many cases it has, and the ways in which their texts are refused, each text by itself.
+#[derive(Default)]
+pub struct Tally(BTreeMap<&'static str, (usize, BTreeSet<[usize; 3]>)>);
+
+impl Tally {
+    fn add(&mut self, case: &Case) {
+        let family = self.0.entry(case.kind).or_default();
+        family.0 += 1;
+        family.1.insert(case.files.refusals());
+    }
+
+    /// All families in a line, or the first that says too little.
+    pub fn told(&self) -> Result<String, String> {
+        let mut said = Vec::new();
+        for (kind, least) in FAMILIES {
+            let (cases, ways) = self.0.get(kind).map_or((0, 0), |(cases, ways)| (*cases, ways.len()));
+            if ways < *least {
+                return Err(format!("the {} cases of the family '{}' are refused in {} ways, and {} are wanted", cases, kind, ways, least));
+            }
+            said.push(format!("{} {} ({})", kind, cases, ways));
+        }
+        Ok(said.join(", "))
+    }
+}
+
 pub struct Drive {
     pub program: Vec<String>,
     pub judge: Judge,
@@ -127,11 +153,12 @@ impl Drive {
         Ok(())
     }
 
-    /// All cases, on as many threads as there are processors. Gives how many agree, or up to ten differences.
-    pub fn all(&self) -> Result<usize, Vec<String>> {
+    /// All cases, on as many threads as there are processors. Gives how many of each family agree, or up to ten differences.
+    pub fn all(&self) -> Result<Tally, Vec<String>> {
         let room = Room::new();
         let next = AtomicUsize::new(0);
         let wrong: Mutex<Vec<String>> = Mutex::new(Vec::new());
+        let tally: Mutex<Tally> = Mutex::new(Tally::default());
         let workers = std::thread::available_parallelism().map_or(1, |n| n.get()).min(8);
         std::thread::scope(|scope| {
             for _ in 0..workers {
@@ -140,14 +167,16 @@ impl Drive {
                     if number >= self.cases || wrong.lock().unwrap().len() >= 10 {
                         break;
                     }
-                    if let Err(why) = self.one(&number.to_string(), &case(self.seed, number), &room.0, None) {
-                        wrong.lock().unwrap().push(why);
+                    let case = case(self.seed, number);
+                    match self.one(&number.to_string(), &case, &room.0, None) {
+                        Ok(()) => tally.lock().unwrap().add(&case),
+                        Err(why) => wrong.lock().unwrap().push(why),
                     }
                 });
             }
         });
         let wrong = wrong.into_inner().unwrap();
-        if wrong.is_empty() { Ok(self.cases) } else { Err(wrong) }
+        if wrong.is_empty() { Ok(tally.into_inner().unwrap()) } else { Err(wrong) }
     }
 
     /// Files that may not be opened. A superuser may open all, so the program is then run as nobody, from a copy that nobody may run.

@@ -40,9 +40,9 @@ fn number(word: &str) -> usize {
 
 fn drive(judge: drive::Judge, words: &[String]) -> Result<String, String> {
     let drive = drive::Drive { judge, seed: number(&words[0]) as u64, cases: number(&words[1]), keep: words[2].clone().into(), program: words[3..].to_vec() };
-    let agree = drive.all().map_err(|wrong| wrong.join("\n"))?;
+    let families = drive.all().map_err(|wrong| wrong.join("\n"))?.told()?;
     let others = drive.forbidden()?;
-    Ok(format!("{}\noutside: {} cases agree", others, agree))
+    Ok(format!("{}\noutside: {} cases agree; of each family, and the ways in which they are refused: {}", others, drive.cases, families))
 }
 
 fn lassos(words: &[String]) -> Result<String, String> {

@@ -107,16 +107,6 @@ fn read_form(text: &[u8]) -> Result<Plant, Refusal> {
     })
 }
 
-/// Refusal 2 for a table text's value.
-fn has_bits_beyond(plant: &Plant) -> bool {
-    let states = if plant.states == 64 { u64::MAX } else { (1 << plant.states) - 1 };
-    let props = if plant.props == 8 { 255 } else { (1u8 << plant.props) - 1 };
-    (plant.start & !states != 0 && !faults::is(Fault::StartBitsUnchecked))
-        || (plant.fair.iter().any(|f| f & !states != 0) && !faults::is(Fault::FairBitsUnchecked))
-        || (plant.next.iter().any(|n| n & !states != 0) && !faults::is(Fault::NextBitsUnchecked))
-        || (plant.label.iter().any(|l| l & !props != 0) && !faults::is(Fault::LabelBitsUnchecked))
-}
-
 pub fn read(text: &[u8]) -> Result<Plant, Refusal> {
     let read = read_form(text);
     if let Err(refusal) = &read {
@@ -131,8 +121,8 @@ pub fn read(text: &[u8]) -> Result<Plant, Refusal> {
         }
     }
     let plant = read?;
-    if has_bits_beyond(&plant) {
-        return Err(Refusal { number: 2, place: 0 });
+    if !faults::is(Fault::BitsAfterRule) {
+        plant.within_counts()?;
     }
     Ok(plant)
 }
@@ -144,6 +134,17 @@ fn early_bad_start(text: &[u8]) -> bool {
 }
 
 impl Plant {
+    /// Refusal 2 for a table text's value.
+    pub fn within_counts(&self) -> Result<(), Refusal> {
+        let states = if self.states == 64 { u64::MAX } else { (1 << self.states) - 1 };
+        let props = if self.props == 8 { 255 } else { (1u8 << self.props) - 1 };
+        let beyond = (self.start & !states != 0 && !faults::is(Fault::StartBitsUnchecked))
+            || (self.fair.iter().any(|f| f & !states != 0) && !faults::is(Fault::FairBitsUnchecked))
+            || (self.next.iter().any(|n| n & !states != 0) && !faults::is(Fault::NextBitsUnchecked))
+            || (self.label.iter().any(|l| l & !props != 0) && !faults::is(Fault::LabelBitsUnchecked));
+        if beyond { Err(Refusal { number: 2, place: 0 }) } else { Ok(()) }
+    }
+
     /// The table's text.
     pub fn text(&self) -> Vec<u8> {
         let mut text = format!("props={}\nstates={}\nstart={:016x}\njust={}\n", self.props, self.states, self.start, self.fair.len());

@@ -4,11 +4,11 @@
 use std::collections::HashSet;
 
 use crate::faults::{self, Fault};
-use crate::log::{self, Event};
+use crate::log::Event;
 use crate::meaning::{run_fault, values, Lasso};
 use crate::pairs::{Graph, Monitor};
-use crate::plant::{self, Plant};
-use crate::rule::{self, Rule};
+use crate::plant::Plant;
+use crate::rule::Rule;
 use crate::watch::{self, Files};
 
 /// What there is before the end of a log, as far as a run that goes on must fit it.
@@ -35,9 +35,9 @@ pub fn past(files: &Files) -> Result<Past, String> {
         _ => [false, false],
     };
     let read = || -> Result<Past, crate::Refusal> {
-        let plant = plant::read(&watch::plant_bytes(&files.plant)?)?;
-        let rule = rule::read(&watch::rule_bytes(&files.rule)?, plant.props)?;
-        let events = log::read(&watch::log_bytes(&files.log)?)?;
+        let plant = files.read_plant()?;
+        let rule = files.read_rule(plant.props)?;
+        let events = files.read_log()?;
         let from = events.iter().rposition(|e| e.new).unwrap_or(0);
         Ok(Past { plant, rule, events: events[from..].to_vec(), kinds })
     };
@@ -295,7 +295,7 @@ pub fn output(files: &Files) -> String {
     };
     let mut events = past.events.clone();
     if faults::is(Fault::RestartIgnored) || faults::is(Fault::RestartKeepsPast) || faults::is(Fault::OutOfModelSticks) || faults::is(Fault::RestartAnywhere) {
-        events = log::read(&watch::log_bytes(&files.log).unwrap()).unwrap();
+        events = files.read_log().unwrap();
     }
     let mut runs = own_lines(&past.plant, &past.rule, &events);
     if faults::is(Fault::RunKindLeftOut) && runs[0].is_some() {
@@ -326,8 +326,8 @@ pub fn output(files: &Files) -> String {
 #[cfg(test)]
 mod tests {
     use super::*;
-    use crate::cases;
     use crate::dice::Dice;
+    use crate::{cases, rule};
 
     /// On long lassos the values are those of the definitions.
     #[test]

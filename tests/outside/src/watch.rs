@@ -1,8 +1,11 @@
 //! The program's whole output, from what stands in the three places.
 
 use crate::faults::{self, Fault};
+use crate::log::{self, Event};
 use crate::pairs::{Graph, Monitor, Verdict};
-use crate::{log, plant, rule, Refusal};
+use crate::plant::{self, Plant};
+use crate::rule::{self, Rule};
+use crate::Refusal;
 
 /// What stands in a file's place.
 #[derive(Clone, Debug, PartialEq)]
@@ -37,12 +40,12 @@ pub struct Files {
     pub log: File,
 }
 
-pub fn plant_bytes(file: &File) -> Result<Vec<u8>, Refusal> {
+fn plant_bytes(file: &File) -> Result<Vec<u8>, Refusal> {
     let limit = if faults::is(Fault::PlantLimit) { 2347 } else if faults::is(Fault::NoPlantLimit) { 1 << 30 } else { 2348 };
     file.within(limit)
 }
 
-pub fn rule_bytes(file: &File) -> Result<Vec<u8>, Refusal> {
+fn rule_bytes(file: &File) -> Result<Vec<u8>, Refusal> {
     let mut bytes = file.within(513)?;
     if faults::is(Fault::RuleSizeAfterDrop) && bytes.len() == 513 && bytes[512] != b'\n' {
         return Err(Refusal { number: 14, place: 0 });
@@ -56,11 +59,35 @@ pub fn rule_bytes(file: &File) -> Result<Vec<u8>, Refusal> {
     Ok(bytes)
 }
 
-pub fn log_bytes(file: &File) -> Result<Vec<u8>, Refusal> {
+fn log_bytes(file: &File) -> Result<Vec<u8>, Refusal> {
     if faults::is(Fault::MissingIsEmpty) && *file == File::Missing {
         return Ok(vec![]);
     }
     file.within(if faults::is(Fault::LogLimit) { 65500 } else if faults::is(Fault::NoLogLimit) { 1 << 30 } else { 65520 })
+}
+
+impl Files {
+    pub fn read_plant(&self) -> Result<Plant, Refusal> {
+        plant::read(&plant_bytes(&self.plant)?)
+    }
+
+    pub fn read_rule(&self, props: usize) -> Result<Rule, Refusal> {
+        rule::read(&rule_bytes(&self.rule)?, props)
+    }
+
+    pub fn read_log(&self) -> Result<Vec<Event>, Refusal> {
+        log::read(&log_bytes(&self.log)?)
+    }
+
+    /// The numbers by which plant, rule and log are refused, each by itself, and 0 for one that is taken. Beside a table that is refused a single
+    /// proposition is allowed.
+    pub fn refusals(&self) -> [usize; 3] {
+        let number = |refusal: Refusal| refusal.number;
+        let plant = self.read_plant();
+        let props = plant.as_ref().map_or(1, |p| p.props);
+        let events = |log: Vec<Event>| if log.iter().all(|e| e.is_legal(props)) { 0 } else { 10 };
+        [plant.map_or_else(number, |_| 0), self.read_rule(props).map_or_else(number, |_| 0), self.read_log().map_or_else(number, events)]
+    }
 }
 
 fn lamp(monitor: &Monitor, graph: &Graph) -> String {
@@ -81,8 +108,20 @@ fn lines(files: &Files, out: &mut String) -> Result<(), Refusal> {
         rule_bytes(&files.rule)?;
         log_bytes(&files.log)?;
     }
-    let plant = plant::read(&plant_bytes(&files.plant)?)?;
-    let rule = rule::read(&rule_bytes(&files.rule)?, plant.props)?;
+    if faults::is(Fault::RuleBeforeTable) {
+        files.read_rule(8)?;
+    }
+    if faults::is(Fault::LogBeforeTable) {
+        files.read_log()?;
+    }
+    let plant = files.read_plant()?;
+    if faults::is(Fault::LogBeforeRule) {
+        files.read_log()?;
+    }
+    let rule = files.read_rule(plant.props)?;
+    if faults::is(Fault::BitsAfterRule) {
+        plant.within_counts()?;
+    }
     let text = log_bytes(&files.log)?;
     let early = faults::is(Fault::LogLate) || faults::is(Fault::EventBeforeForm);
     let events = if early { log::read(&text[..text.len() / 20 * 20]).or_else(|_| log::read(&text)) } else { log::read(&text) }?;
