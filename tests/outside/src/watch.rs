@@ -108,13 +108,14 @@ fn lines(files: &Files, out: &mut String) -> Result<(), Refusal> {
         rule_bytes(&files.rule)?;
         log_bytes(&files.log)?;
     }
-    if faults::is(Fault::RuleBeforeTable) {
+    let plant = files.read_plant();
+    if faults::is(Fault::RuleBeforeTable) && plant.is_err() {
         files.read_rule(8)?;
     }
-    if faults::is(Fault::LogBeforeTable) {
+    if faults::is(Fault::LogBeforeTable) && plant.is_err() {
         files.read_log()?;
     }
-    let plant = files.read_plant()?;
+    let plant = plant?;
     if faults::is(Fault::LogBeforeRule) {
         files.read_log()?;
     }
