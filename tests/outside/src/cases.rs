@@ -520,16 +520,26 @@ fn several_damaged(dice: &mut Dice, turn: usize) -> Files {
     while files.read_plant().map_or(true, |plant| plant.props == 8) {
         files = small(dice);
     }
-    while files.refusals()[0] != numbers[0] {
-        files.plant = dice.pick(that_give(numbers[0]))(dice).plant;
-    }
-    while files.refusals()[1] != numbers[1] {
-        files.rule = dice.pick(that_give(numbers[1]))(dice).rule;
-    }
-    while files.refusals()[2] != numbers[2] {
-        files.log = dice.pick(that_give(numbers[2]))(dice).log;
+    for text in 0..3 {
+        redraw(&mut files, text, numbers[text], dice);
     }
     files
+}
+
+/// A text (0 plant, 1 rule, 2 log) of another family's case, which is refused so beside this table; where none is in many cases, the family can't be had.
+fn redraw(files: &mut Files, text: usize, number: usize, dice: &mut Dice) {
+    for _ in 0..100_000 {
+        if files.refusals()[text] == number {
+            return;
+        }
+        let other = dice.pick(that_give(number))(dice);
+        match text {
+            0 => files.plant = other.plant,
+            1 => files.rule = other.rule,
+            _ => files.log = other.log,
+        }
+    }
+    panic!("no text {} is refused by {}", text, number);
 }
 
 /// A file that this user may not open, in some cases beside other texts that are refused.
