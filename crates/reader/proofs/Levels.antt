@@ -2,7 +2,7 @@
 use Prim.Native.Nat.{ℕ, zero, suc, _+_, _-_, _*_, _≤_, _<_}
 use mathlib.Core.Path.{_≡_, refl, sym, ap, _∙_}
 use mathlib.Core.List.{List, [], _∷_, _++_}
-use mathlib.Core.Bool.{true, false}
+use mathlib.Core.Bool.{true, false, cond}
 use native.Mathlib.Omega.{arith}
 use borrow.Author.Tests.{eq-eqb, ne-eqb}
 use lib.ListN.{length}
@@ -10,7 +10,7 @@ use Rattle.syntax.specs.declared.Op.{Op}
 use Rattle.syntax.specs.declared.Rule.{Rule}
 use Rattle.syntax.specs.declared.Token.{Token}
 use Rattle.syntax.specs.Bytes.{tokens}
-use Rattle.syntax.specs.Reader.{Got, stay, onward, number, opOf, head, tail, pick, begins, operator, leaf}
+use Rattle.syntax.specs.Reader.{Got, stay, onward, number, opOf, head, tail, begins, operator, leaf}
 use Rattle.syntax.proofs.Stable.{picked, unpicked}
 use Rattle.reader.specs.Draft.{pushed, written, closedBy, pastMark, Leads, Did, Next}
 use Rattle.reader.specs.declared.Mark.{Mark}
@@ -74,7 +74,7 @@ module _ (s : List ℕ) where
 
   -- a level f that groups to the right, above the level g
   module _ (k h : ℕ) (small : k < 8) (f g : ℕ → List Token → Got)
-      (is : (n : ℕ) (ts : List Token) → f (suc (suc n)) ts ≡ onward (λ us. pick (begins k us) (operator (λ vs. f n vs) us) (stay us)) (g (suc n) ts)) where
+      (is : (n : ℕ) (ts : List Token) → f (suc (suc n)) ts ≡ onward (λ us. cond (begins k us) (operator (λ vs. f n vs) us) (stay us)) (g (suc n) ts)) where
     pub right-more : {d left p right r : Draft} {m : Mark} → Did g h s d left → Next s (left .at) m → m .number ≡ k
         → p ≡ pastMark left m → Did f (suc h) s p right → r ≡ closedBy right m → Did f (suc h) s d r
     right-more {d} {left} {p} {right} {r} {m} a x e past b close =
@@ -86,7 +86,7 @@ module _ (s : List ℕ) where
         go b′ moves zero lt = absurd (omega arith)
         go b′ moves (suc zero) lt = absurd (omega arith)
         go b′ moves (suc (suc n)) lt =
-            leads-as (is n _) (leads-onward (λ us. pick (begins k us) (operator (λ vs. f n vs) us) (stay us)) (a .leads (suc n) (omega arith))
+            leads-as (is n _) (leads-onward (λ us. cond (begins k us) (operator (λ vs. f n vs) us) (stay us)) (a .leads (suc n) (omega arith))
             (leads-as (picked _ _ (heard x e)) (leads-operator (λ vs. f n vs) x (b′ .leads n (omega (arith, a .onward, x .within))))))
 
     pub right-none : {d left : Draft} {m : Mark} → Did g h s d left → Next s (left .at) m → (m .number ≡ k → ⊥) → Did f (suc h) s d left
@@ -95,7 +95,7 @@ module _ (s : List ℕ) where
         go : (n : ℕ) → 8 * (length s - d .at) + suc h < n → Leads s d left (f n (tokens s (d .at)))
         go zero lt = absurd (omega arith)
         go (suc zero) lt = absurd (omega arith)
-        go (suc (suc n)) lt = leads-as (is n _) (leads-onward (λ us. pick (begins k us) (operator (λ vs. f n vs) us) (stay us)) (a .leads (suc n) (omega arith)) (leads-as (unpicked _ _ (unheard x e)) (leads-stay left)))
+        go (suc (suc n)) lt = leads-as (is n _) (leads-onward (λ us. cond (begins k us) (operator (λ vs. f n vs) us) (stay us)) (a .leads (suc n) (omega arith)) (leads-as (unpicked _ _ (unheard x e)) (leads-stay left)))
 
   -- a level f that groups to the left: an operand of the level g, and then what m reads
   module _ (h : ℕ) (f g m : ℕ → List Token → Got) (is : (n : ℕ) (ts : List Token) → f (suc n) ts ≡ onward (λ us. m n us) (g n ts)) where
@@ -108,7 +108,7 @@ module _ (s : List ℕ) where
 
   -- what follows on such a level: an operator, an operand of the level g, and so on
   module _ (k h : ℕ) (small : k < 8) (low : h < 8) (f g : ℕ → List Token → Got)
-      (is : (n : ℕ) (ts : List Token) → f (suc n) ts ≡ pick (begins k ts) (onward (λ us. f n us) (operator (λ us. g n us) ts)) (stay ts)) where
+      (is : (n : ℕ) (ts : List Token) → f (suc n) ts ≡ cond (begins k ts) (onward (λ us. f n us) (operator (λ us. g n us) ts)) (stay ts)) where
     pub left-more : {d p right q r : Draft} {m : Mark} → Next s (d .at) m → m .number ≡ k → p ≡ pastMark d m → Did g h s p right
         → q ≡ closedBy right m → Did f 0 s q r → Did f 0 s d r
     left-more {d} {p} {right} {q} {r} {m} x e past a close b =
@@ -133,7 +133,7 @@ module _ (s : List ℕ) where
 
   -- a level f of operators before their operand, above the level g
   module _ (k h : ℕ) (small : k < 8) (f g : ℕ → List Token → Got)
-      (is : (n : ℕ) (ts : List Token) → f (suc n) ts ≡ pick (begins k ts) (operator (λ us. f n us) ts) (g n ts)) where
+      (is : (n : ℕ) (ts : List Token) → f (suc n) ts ≡ cond (begins k ts) (operator (λ us. f n us) ts) (g n ts)) where
     pub before-more : {d p inner r : Draft} {m : Mark} → Next s (d .at) m → m .number ≡ k → p ≡ pastMark d m → Did f (suc h) s p inner
         → r ≡ closedBy inner m → Did f (suc h) s d r
     before-more {d} {p} {inner} {r} {m} x e past a close =

@@ -11,7 +11,7 @@ use Rattle.syntax.specs.declared.Token.{Token}
 use Rattle.syntax.specs.declared.Token.the-variants.{Leaf, Prefix, Infix, Open, Close, End}
 use Rattle.syntax.specs.Grammar.{Level, arrows, ors, ands, untils, prefixes, leaves, tighter, Side, left, right, Atom, is-false, is-true, is-prop, Unary, is-not, is-next, is-finally, is-globally, Binary, is-implies, is-or, is-and, is-until, is-release, Text, atom, group, unary, lefts, rights, tight}
 use Rattle.syntax.specs.Postfix.{postfix}
-use Rattle.syntax.specs.Reader.{Got, stay, after, closed, onward, place, rank, head, tail, pick, begins, read, more}
+use Rattle.syntax.specs.Reader.{Got, stay, after, closed, onward, place, rank, head, tail, begins, read, more}
 use Rattle.syntax.proofs.Stable.{unpicked}
 
 -- P holds from some fuel on
@@ -122,13 +122,13 @@ below is-release n ts = refl
 -- what follows, at an operator of the level
 follow-left : {l : Level} {o : Op} {j : Formula → Formula → Formula} → Binary l left o j → (n : ℕ) (ts : List Token)
     → more (suc n) l (Infix o ∷ ts) ≡ onward (λ us. more n l us) (closed o (read n (tighter l) ts))
-unfolding more tighter head tail pick
+unfolding more tighter head tail
 follow-left is-or n ts = refl
 follow-left is-and n ts = refl
 
 follow-right : {l : Level} {o : Op} {j : Formula → Formula → Formula} → Binary l right o j → (n : ℕ) (ts : List Token)
     → more (suc n) l (Infix o ∷ ts) ≡ closed o (read n l ts)
-unfolding more head tail pick
+unfolding more head tail
 follow-right is-implies n ts = refl
 follow-right is-until n ts = refl
 follow-right is-release n ts = refl
@@ -227,7 +227,7 @@ regroup : {l : Level} {d : Side} {o : Op} {j : Formula → Formula → Formula} 
 regroup {o} b f g R = ap (λ xs. record { out = xs; rest = R .rest }) (sym (append-assoc (postfix f) (postfix g ++ o ∷ []) (R .out)) ∙ ap (λ xs. xs ++ R .out) (sym (postfix-binary b f g)))
 
 complete : {l : Level} {f : Formula} {ts : List Token} → Text l f ts → Reads l f ts
-unfolding read bound rank head tail pick front
+unfolding read bound rank head tail front
 complete (atom {o} {f} a) = record {
   by = λ us R h e. rw (settled leaves us R (omega arith) e)
       (later (0, λ n _. ap (λ xs. record { out = xs; rest = us }) (sym (append-nil (o ∷ [])) ∙ ap (λ xs. xs ++ []) (sym (postfix-atom a)))));

@@ -6,7 +6,7 @@ use Rattle.syntax.specs.declared.Scan.the-variants.{Good, Bad}
 use Rattle.syntax.specs.Bytes.{signOf, leafOf, lexSign, lex}
 use Rattle.syntax.specs.Postfix.{postfix}
 use Rattle.syntax.specs.Print.{print}
-use Rattle.syntax.specs.Reader.{head, tail, pick, read, more, parse}
+use Rattle.syntax.specs.Reader.{head, tail, read, more, parse}
 use Rattle.syntax.specs.Scan.{closes, scanFrom, scan}
 
 -- ``
@@ -61,7 +61,7 @@ scan-10 = refl
 
 -- `p0Up1Up0` prints `(p0U(p1Up0))`
 parse-1 : parse (112 ∷ 48 ∷ 85 ∷ 112 ∷ 49 ∷ 85 ∷ 112 ∷ 48 ∷ []) ≡ postfix (until (prop 0) (until (prop 1) (prop 0)))
-unfolding parse read more lex lexSign signOf leafOf head tail pick postfix
+unfolding parse read more lex lexSign signOf leafOf head tail postfix
 parse-1 = refl
 
 print-1 : print (until (prop 0) (until (prop 1) (prop 0))) ≡ 40 ∷ 112 ∷ 48 ∷ 85 ∷ 40 ∷ 112 ∷ 49 ∷ 85 ∷ 112 ∷ 48 ∷ 41 ∷ 41 ∷ []
@@ -70,7 +70,7 @@ print-1 = refl
 
 -- `!p0Up1` prints `(!p0Up1)`
 parse-2 : parse (33 ∷ 112 ∷ 48 ∷ 85 ∷ 112 ∷ 49 ∷ []) ≡ postfix (until (neg (prop 0)) (prop 1))
-unfolding parse read more lex lexSign signOf leafOf head tail pick postfix
+unfolding parse read more lex lexSign signOf leafOf head tail postfix
 parse-2 = refl
 
 print-2 : print (until (neg (prop 0)) (prop 1)) ≡ 40 ∷ 33 ∷ 112 ∷ 48 ∷ 85 ∷ 112 ∷ 49 ∷ 41 ∷ []
@@ -79,7 +79,7 @@ print-2 = refl
 
 -- `p0&p1&p0` prints `((p0&p1)&p0)`
 parse-3 : parse (112 ∷ 48 ∷ 38 ∷ 112 ∷ 49 ∷ 38 ∷ 112 ∷ 48 ∷ []) ≡ postfix (and (and (prop 0) (prop 1)) (prop 0))
-unfolding parse read more lex lexSign signOf leafOf head tail pick postfix
+unfolding parse read more lex lexSign signOf leafOf head tail postfix
 parse-3 = refl
 
 print-3 : print (and (and (prop 0) (prop 1)) (prop 0)) ≡ 40 ∷ 40 ∷ 112 ∷ 48 ∷ 38 ∷ 112 ∷ 49 ∷ 41 ∷ 38 ∷ 112 ∷ 48 ∷ 41 ∷ []

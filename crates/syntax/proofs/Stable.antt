@@ -2,13 +2,13 @@
 use Prim.Native.Nat.{ℕ, zero, suc, _+_, _*_, _≤_, _<_}
 use mathlib.Core.Path.{_≡_, refl, ap, _∙_}
 use mathlib.Core.List.{List, [], _∷_}
-use mathlib.Core.Bool.{Bool, true, false}
+use mathlib.Core.Bool.{Bool, true, false, cond}
 use native.Mathlib.Omega.{arith}
 use borrow.Author.Tests.{eqb-true}
 use lib.ListN.{length}
 use Rattle.syntax.specs.declared.Token.{Token}
 use Rattle.syntax.specs.Grammar.{Level, arrows, ors, ands, untils, prefixes, leaves}
-use Rattle.syntax.specs.Reader.{Got, stay, after, closed, onward, opOf, head, tail, pick, begins, read, more}
+use Rattle.syntax.specs.Reader.{Got, stay, after, closed, onward, opOf, head, tail, begins, read, more}
 
 -- how many calls deep the reader goes without reading a token
 unfoldable pub height : Level → ℕ
@@ -30,21 +30,17 @@ tail-lt k h [] e = absurd (omega (arith, eqb-true 8 k e))
 tail-lt k h (t ∷ ts) e = omega arith
 
 -- what is picked
-pub picked : {b : Bool} (x y : Got) → b ≡ true → pick b x y ≡ x
-unfolding pick
+pub picked : {b : Bool} (x y : Got) → b ≡ true → cond b x y ≡ x
 picked x y e = rw e
 
-pub unpicked : {b : Bool} (x y : Got) → b ≡ false → pick b x y ≡ y
-unfolding pick
+pub unpicked : {b : Bool} (x y : Got) → b ≡ false → cond b x y ≡ y
 unpicked x y e = rw e
 
-by-pick : (P : Got → Type 0) (b : Bool) {x y : Got} → (b ≡ true → P x) → (b ≡ false → P y) → P (pick b x y)
-unfolding pick
+by-pick : (P : Got → Type 0) (b : Bool) {x y : Got} → (b ≡ true → P x) → (b ≡ false → P y) → P (cond b x y)
 by-pick P true f g = f refl
 by-pick P false f g = g refl
 
-pick-both : (b : Bool) {x x′ y y′ : Got} → (b ≡ true → x ≡ x′) → (b ≡ false → y ≡ y′) → pick b x y ≡ pick b x′ y′
-unfolding pick
+pick-both : (b : Bool) {x x′ y y′ : Got} → (b ≡ true → x ≡ x′) → (b ≡ false → y ≡ y′) → cond b x y ≡ cond b x′ y′
 pick-both true f g = f refl
 pick-both false f g = g refl
 
