@@ -7,7 +7,7 @@ use mathlib.Core.Bool.{Bool, true, false, So, _&&_, not, cond, and-true, and-fal
 use mathlib.Core.List.{List}
 use lib.Bits.{bitOr}
 use lib.Dec.{eqb, ltb}
-use lib.ListN.{length, getD, set, replicate, length-set, length-replicate, getD-replicate, List·getD-eq-default}
+use lib.ListN.{length, getD, set, replicate, length-set, length-replicate}
 use lib.Pow.{pow-pos}
 use lib.Seq.{getD-set-same, getD-set-other}
 use borrow.Author.Tests.{lt-ltb, le-ltb, ltb-true, eq-eqb, ne-eqb, eqb-true, not-false}
@@ -16,7 +16,7 @@ use Rattle.words.specs.Word.{withoutOf, onlyOf}
 use Rattle.words.specs.Below.{wordsBelow}
 use Rattle.words.specs.Laws.{bit-or, bit-zero, bit-only, bit-single, bit-left, same-bits}
 use Rattle.words.specs.Lowest.{lowestOf, othersOf, lowest-lt, bit-lowest, bit-others}
-use Rattle.words.specs.Lists.{words-at, words-ext, length-words}
+use Rattle.words.specs.Lists.{zeros, words-at, words-ext, length-words}
 use Rattle.words.specs.Unions.{bit-wordOf, word-at, wordOf-lt}
 use Rattle.words.specs.Within.{members-below}
 use Rattle.pairs.specs.Sets.{Words}
@@ -50,12 +50,6 @@ movers-only next leave enter count front others {more} adds = record {
     | no g ↦ rw (adds, ← movers-words next leave enter count front others) (words-at count _ v l ∙ rw (le-ltb v count (omega arith)))
   ];
 }
-
-pub zeros : (n k : ℕ) → getD (replicate {A = ℕ} n 0) k 0 ≡ 0
-zeros n k = elim (decLt k n) [
-  | yes l ↦ getD-replicate n k 0 0 l
-  | no g ↦ List·getD-eq-default (replicate {A = ℕ} n 0) 0 {n = k} (rw (length-replicate {A = ℕ} n 0) (omega arith))
-]
 
 -- ---- words f 0, f 1, .. f (n - 1), worked out where they may be more than 0
 

@@ -12,7 +12,7 @@ use lib.ListN.{length, getD, replicate}
 use borrow.Author.Tests.{lt-ltb, ne-eqb}
 use Rattle.words.specs.Below.{countBelow}
 use Rattle.words.specs.Laws.{bit-zero}
-use Rattle.words.specs.Lists.{words-at, length-words}
+use Rattle.words.specs.Lists.{zeros, words-at, length-words}
 use Rattle.words.specs.Truth.{and-says, says-dec, says-itself}
 use Rattle.words.specs.Unions.{bit-wordOf, some-member}
 use Rattle.words.specs.Within.{members-below}
@@ -30,7 +30,7 @@ use Rattle.sweeps.specs.Sweeps.{withoutSet, moversOf}
 use Rattle.sweeps.specs.Laws.{without-inside, inside-without}
 use Rattle.nearest.specs.Graph.{nodes-below, movesOf, leading-nodes}
 use Rattle.nearest.specs.Joining.{heldOf}
-use Rattle.nearest.specs.Places.{zeros, movers-only}
+use Rattle.nearest.specs.Places.{movers-only}
 use Rattle.nearest.specs.Ranking.{rankOf, Marked, marked-old, marked-new, Ranking, ranking-start, ranking-more, ranking-end}
 
 -- 64 words, whatever p and q are

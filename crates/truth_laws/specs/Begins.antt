@@ -14,7 +14,8 @@ use Rattle.syntax.specs.declared.Node.{Node}
 use Rattle.syntax.specs.Postfix.{sides}
 use Rattle.shape.specs.Ops.{opAt}
 use Rattle.shape.specs.Shape.{beginOf, beginsOf}
-use Rattle.truth_laws.specs.Grows.{stays, zeros}
+use Rattle.words.specs.Lists.{zeros}
+use Rattle.truth_laws.specs.Grows.{stays}
 use Rattle.truth_laws.specs.Tree.{Tree, leaf, one, two, nodesIn, Stands}
 
 module _ (nodes : List Node) where

@@ -1,9 +1,8 @@
 -- Entries that a loop has stored and does not touch again.
 use Prim.Native.Nat.{ℕ, zero, suc, _≤_, _<_}
-use mathlib.Core.Path.{_≡_, refl, _∙_}
+use mathlib.Core.Path.{_≡_, _∙_}
 use mathlib.Core.Logic.{⊎-elim}
 use native.Mathlib.Omega.{arith}
-use lib.ListN.{getD, replicate}
 use Rattle.words.specs.Tests.{below-cases}
 
 -- what no turn from turn n on changes is at the end as it was at turn n
@@ -13,9 +12,3 @@ stays g most n h (suc m) l k = ⊎-elim
     (λ (s : n < suc m). h m (omega arith) (omega arith) ∙ stays g most n h m (omega arith) (omega arith))
     (λ (e : n ≡ suc m). rw e)
     (below-cases {k = n} {n = suc m} (omega arith))
-
--- a table of zeros has no other entry
-pub zeros : (n p : ℕ) → getD (replicate {A = ℕ} n 0) p 0 ≡ 0
-zeros zero p = refl
-zeros (suc n) zero = refl
-zeros (suc n) (suc p) = zeros n p

@@ -16,9 +16,10 @@ use Rattle.syntax.specs.declared.Op.{Op}
 use Rattle.syntax.specs.declared.Op.the-variants.{False, True, Prop, Not, Next, Finally, Globally, Until, Release, And, Or, Implies}
 use Rattle.syntax.specs.declared.Node.{Node}
 use Rattle.words.specs.Word.{onlyOf}
+use Rattle.words.specs.Lists.{zeros}
 use Rattle.shape.specs.Ops.{opAt}
 use Rattle.truth.specs.Nodes.{ownOf, madeOf, wordAt, nodesAfter}
-use Rattle.truth_laws.specs.Grows.{stays, zeros}
+use Rattle.truth_laws.specs.Grows.{stays}
 
 -- ---- they are words
 
