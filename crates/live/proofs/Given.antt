@@ -15,6 +15,7 @@ use Rattle.plant.specs.Table.{plantOf}
 use Rattle.syntax.specs.declared.Rule.{Rule}
 use Rattle.truth.specs.Ready.{Ready}
 use Rattle.truth.specs.Tables.{tablesOf}
+use Rattle.ways.specs.Ways.{waysOf}
 use Rattle.checks.specs.Checks.{formulaOf, inputOutcome}
 use Rattle.checks.proofs.Input.{Input}
 use Rattle.checks.proofs.Given.{accepted, right, ready}
@@ -42,7 +43,7 @@ module _ (p : Plant) (fair label next : List ℕ) (rule : Rule) where
 
     -- and these are those of the model
     pub live-set-is : liveOf (p .states) fair label next rule ≡ liveSet table formula
-    unfolding liveOf
+    unfolding liveOf waysOf
     live-set-is = live-by table formula (i .table) (i .few) (tablesOf label rule) (right i)
 
   -- ---- the answers

@@ -3,15 +3,14 @@ use Prim.Native.Nat.{ℕ}
 use mathlib.Core.List.{List}
 use lib.ListN.{replicate}
 use Rattle.model.specs.LiveSet.{liveSet}
-use Rattle.leads.specs.Halves.{leavingOf, enteringOf}
 use Rattle.sweeps.specs.Rounds.{lastingOf}
 use Rattle.answers.specs.declared.Outcome.{Outcome}
 use Rattle.answers.specs.declared.Outcome.the-variants.{Accepted, Refused}
 use Rattle.plant.specs.declared.Plant.{Plant}
 use Rattle.plant.specs.Table.{plantOf}
 use Rattle.syntax.specs.declared.Rule.{Rule}
-use Rattle.truth.specs.declared.tables.Tables.{Tables}
-use Rattle.truth.specs.Tables.{tablesOf}
+use Rattle.ways.specs.declared.Ways.{Ways}
+use Rattle.ways.specs.Ways.{waysOf}
 use Rattle.checks.specs.Checks.{formulaOf, inputOutcome}
 use Rattle.live.specs.declared.Prepared.{Prepared}
 
@@ -25,9 +24,8 @@ preparedOf p fair label next rule = preparedAs (inputOutcome p fair label next r
 
 -- ---- the live set as code works it out
 
-unfoldable pub liveBy : Tables → ℕ → List ℕ → List ℕ → List ℕ
-liveBy t states fair next =
-    lastingOf fair next (leavingOf (t .parts) (t .low) (t .high)) (enteringOf (t .parts) (t .nexts) (t .operand)) (t .settled) (t .parts) states
+unfoldable pub liveBy : Ways → ℕ → List ℕ → List ℕ → List ℕ
+liveBy w states fair next = lastingOf fair next (w .leave) (w .enter) (w .settled) (w .parts) states
 
 unfoldable pub liveOf : ℕ → List ℕ → List ℕ → List ℕ → Rule → List ℕ
-liveOf states fair label next rule = liveBy (tablesOf label rule) states fair next
+liveOf states fair label next rule = liveBy (waysOf label rule) states fair next

@@ -1,4 +1,4 @@
--- With right tables the live set worked out is that of the model.
+-- With what an accepted rule says the live set worked out is that of the model.
 use Prim.Native.Nat.{ℕ, _-_, _^_}
 use mathlib.Core.Path.{_≡_, refl, ap, _∙_}
 use mathlib.Core.List.{List}
@@ -13,18 +13,18 @@ use Rattle.sweeps.specs.Right.{Moves}
 use Rattle.sweeps.specs.Lives.{live-right}
 use Rattle.syntax.specs.declared.Rule.{Rule}
 use Rattle.truth.specs.declared.tables.Tables.{Tables}
-use Rattle.truth.specs.Tables.{tablesOf}
 use Rattle.truth.specs.Right.{RightTables}
+use Rattle.ways.specs.declared.Ways.{Ways}
+use Rattle.ways.specs.Ways.{waysFrom, waysOf}
 use Rattle.live.specs.Prepare.{liveBy, liveOf}
 
 -- ---- what the code has
 
 -- what its calls give, one after the other
-pub live-is : {t : Tables} (states : ℕ) (fair label next : List ℕ) (rule : Rule) {leave enter r : List ℕ} → t ≡ tablesOf label rule
-    → leave ≡ leavingOf (t .parts) (t .low) (t .high) → enter ≡ enteringOf (t .parts) (t .nexts) (t .operand)
-    → r ≡ lastingOf fair next leave enter (t .settled) (t .parts) states → r ≡ liveOf states fair label next rule
+pub live-is : {w : Ways} (states : ℕ) (fair label next : List ℕ) (rule : Rule) {r : List ℕ} → w ≡ waysOf label rule
+    → r ≡ lastingOf fair next (w .leave) (w .enter) (w .settled) (w .parts) states → r ≡ liveOf states fair label next rule
 unfolding liveOf liveBy
-live-is states fair label next rule e el ee er = er ∙ rw (el, ee) (ap (λ (u : Tables). liveBy u states fair next) e)
+live-is states fair label next rule e er = er ∙ ap (λ (u : Ways). liveBy u states fair next) e
 
 -- ---- what it means
 
@@ -36,7 +36,7 @@ module _ (T : Plant) (f : Formula) (A : AcceptedTable T) (small : Small f) (t : 
   moves : Moves T f (leavingOf (parts f) (t .low) (t .high)) (enteringOf (parts f) (t .nexts) (t .operand))
   moves = record { leading = before-halves T f A small (t .low) (t .high) (t .nexts) (t .operand) (R .low) (R .high) (R .nexts) (R .operand) }
 
-  pub live-by : liveBy t (T .states) (T .fair) (T .next) ≡ liveSet T f
+  pub live-by : liveBy (waysFrom t) (T .states) (T .fair) (T .next) ≡ liveSet T f
   unfolding liveBy lastingOf
   live-by = rw (R .count, every-all T f)
       (live-right T f A small (leavingOf (parts f) (t .low) (t .high)) (enteringOf (parts f) (t .nexts) (t .operand)) moves (t .settled) (R .settled))

@@ -1,11 +1,10 @@
 // The live pairs of a table and a rule: from all pairs, those from which some goal is not reached are dropped again and again.
 use answers::Outcome;
-use leads::halves::entering;
-use leads::halves::leaving;
 use pairs::Pairs;
 use plant::Plant;
 use sweeps::rounds::lasting;
 use syntax::Rule;
+use ways::ways_of;
 ghost use mathlib.Core.Path.{_≡_};
 ghost use Prim.Native.Nat.{_≤_};
 ghost use lib.ListN.{length};
@@ -23,17 +22,15 @@ fn live_pairs(states: usize, fair: &[u64], label: &[u16], next: &[u64], rule: Ru
     requires { ⌜ Ready (now label) rule × ((1 ≤ states) × (states ≤ 64)) × (length (now fair) ≤ 4) ⌝ }
     ensures { λ r. ⌜ r .words ≡ liveOf states (now (fair .entry)) (now (label .entry)) (now (next .entry)) rule ⌝ }
 {
-    let tables = truth::tables::tables_of(label, rule);
-    let leave = leaving(tables.parts, &tables.low, &tables.high);
-    let enter = entering(tables.parts, tables.nexts, &tables.operand);
+    let ways = ways_of(label, rule);
     lasting(
         states,
         fair,
         next,
-        &leave.words,
-        &enter.words,
-        &tables.settled,
-        tables.parts,
+        &ways.leave,
+        &ways.enter,
+        &ways.settled,
+        ways.parts,
     )
 }
 

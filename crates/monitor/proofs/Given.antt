@@ -23,16 +23,18 @@ use Rattle.syntax.specs.declared.Rule.{Rule}
 use Rattle.log.specs.declared.Event.{Event}
 use Rattle.log.specs.Legal.{seenOf, legalOf, legal-exactly}
 use Rattle.shape.specs.Shape.{partsIn}
+use Rattle.ways.specs.Ways.{waysOf}
 use Rattle.checks.specs.Checks.{andThen, unless, inputOutcome, pairsFit}
 use Rattle.checks.specs.Exactly.{fit-is, join-says, chain-accepts, unless-accepts}
 use Rattle.checks.proofs.Input.{Input}
 use Rattle.checks.proofs.Given.{accepted, right, parts-is}
-use Rattle.monitor.specs.declared.Monitor.{Monitor}
+use Rattle.advance.specs.declared.Monitor.{Monitor}
+use Rattle.advance.specs.Held.{modelOf, monitorOf, eventOf}
+use Rattle.advance.specs.Sides.{openedBy, advancedIn}
+use Rattle.advance.specs.Right.{opened-right, advanced-right}
 use Rattle.monitor.specs.declared.Watched.{Watched}
-use Rattle.monitor.specs.Calls.{modelOf, monitorOf, eventOf, none, lampOf, watched, lit, table, formula, checkedOf, openOf, lookOf, stepChecked, stepOf}
+use Rattle.monitor.specs.Calls.{none, lampOf, watched, lit, table, formula, checkedOf, openOf, lookOf, stepChecked, stepOf}
 use Rattle.monitor.specs.Checked.{fitOf, heldOf, caughtOf}
-use Rattle.monitor.specs.Sides.{openedOf, steppedOf}
-use Rattle.monitor.specs.Right.{opened-right, stepped-right}
 
 abbrev watchedWith : Answer → Monitor → Watched
 watchedWith a m = record { answer = a; monitor = m }
@@ -64,6 +66,12 @@ module _ (p : Plant) (fair label next : List ℕ) (rule : Rule) where
     fits-are one two ek es en ex ey =
         let many = en ∙ ap (λ (j : ℕ). 2 ^ j) (ek ∙ parts-is i) in
         ap₂ _&&_ (ex ∙ ap₂ (pairsFit one) es many) (ey ∙ ap₂ (pairsFit two) es many)
+
+    -- check 10 by the count of propositions that the code has
+    pub legal-is : (e : Event) → legalOf e (p .props) ≡ eventOk (table p fair label next rule) (seenOf e)
+    legal-is e =
+        says-same (Iff·trans (legal-exactly (table p fair label next rule) e) (λ h. h .1, λ l. (omega (arith, i .table .few-props), l)))
+        (legal-says (table p fair label next rule) (seenOf e))
 
   module _ (full : length (rule .nodes) ≡ 32) where
     -- a chain behind the check of table and rule, by what is so if they are accepted
@@ -102,12 +110,12 @@ module _ (p : Plant) (fair label next : List ℕ) (rule : Rule) where
       unfolding openOf
       not-opened g = ap (λ (x : Outcome). watched x none new) (sym g ∙ opens-checked)
 
-      pub is-opened : {m : Monitor} {a : Answer} → o ≡ Accepted → m ≡ openedOf (p .start) label rule live → a ≡ lampOf (modelOf m) → watchedWith a m ≡ openOf p fair label next rule live
+      pub is-opened : {m : Monitor} {a : Answer} → o ≡ Accepted → m ≡ openedBy (p .start) (waysOf label rule .holds) (live .words) → a ≡ lampOf (modelOf m) → watchedWith a m ≡ openOf p fair label next rule live
       unfolding openOf
       is-opened g em el =
           let (i, sets) = both-accepted (fine (live .words)) (sym opens-checked ∙ g) in
           let z = pairs-says _ _ (live .words) .0 sets in
-          lighted none new (em ∙ opened-right _ _ (i .table) (i .few) rule (right i) live z) el
+          lighted none new (em ∙ opened-right _ _ (i .table) (i .few) rule (right i) (live .words) z) el
           ∙ ap (λ (x : Outcome). watched x none new) (sym g ∙ opens-checked)
 
     -- ---- look
@@ -135,18 +143,13 @@ module _ (p : Plant) (fair label next : List ℕ) (rule : Rule) where
       unfolding caughtOf heldOf
       step-checked =
           e ∙ in-turn (inputOutcome p fair label next rule) _ _
-          ∙ behind _ _ (λ i. ap₂ (λ (b c : Bool). andThen (unless b Value) (unless c EventKind)) (both-sides i) (legal-is i))
+          ∙ behind _ _ (λ i. ap₂ (λ (b c : Bool). andThen (unless b Value) (unless c EventKind)) (both-sides i) (legal-is i event))
           ∙ sym (in-turn (inputOutcome p fair label next rule) _ _)
         where
           both-sides : Input p fair label next rule → (fitOf p fair label next rule (live .words) && fitOf p fair label next rule (joinOf (m .keeps .words) (m .breaks .words))) ≡ sets
           both-sides i =
               ap₂ _&&_ (fit-is _ _ (i .table .few-states) (live .words) w)
               (says-same (join-says _ _ (i .table .few-states) (m .keeps .words) (m .breaks .words) x y) (says-and (pairs-says _ _ (m .keeps .words)) (pairs-says _ _ (m .breaks .words))))
-
-          legal-is : Input p fair label next rule → legalOf event (p .props) ≡ eventOk (table p fair label next rule) (seenOf event)
-          legal-is i =
-              says-same (Iff·trans (legal-exactly (table p fair label next rule) event) (λ h. h .1, λ l. (omega (arith, i .table .few-props), l)))
-              (legal-says (table p fair label next rule) (seenOf event))
 
       step-accepted : o ≡ Accepted → Input p fair label next rule × So sets
       step-accepted g = both-accepted sets (chain-accepts (checkedOf p fair label next rule sets) _ .0 (sym step-checked ∙ g) .0)
@@ -158,14 +161,14 @@ module _ (p : Plant) (fair label next : List ℕ) (rule : Rule) where
       unfolding stepOf
       not-stepped g = ap (λ (z : Outcome). watched z m after) (sym g ∙ step-checked)
 
-      pub is-stepped : {n : Monitor} {a : Answer} → o ≡ Accepted → n ≡ steppedOf (p .start) label next rule live m event → a ≡ lampOf (modelOf n) → watchedWith a n ≡ stepOf p fair label next rule live m event
+      pub is-stepped : {n : Monitor} {a : Answer} → o ≡ Accepted → n ≡ advancedIn (p .start) label next (waysOf label rule) (live .words) m event → a ≡ lampOf (modelOf n) → watchedWith a n ≡ stepOf p fair label next rule live m event
       unfolding stepOf
       is-stepped g en el =
           let (i, all) = step-accepted g in
           let (first, rest) = and-says (fine (live .words)) _ .0 all in
           let (keeps, breaks) = and-says (fine (m .keeps .words)) _ .0 rest in
           let z = pairs-says _ _ (live .words) .0 first in
-          lighted m after (en ∙ stepped-right _ _ (i .table) (i .few) rule (right i) live z m (held (pairs-says _ _ (m .keeps .words) .0 keeps) (pairs-says _ _ (m .breaks .words) .0 breaks)) event) el
+          lighted m after (en ∙ advanced-right _ _ (i .table) (i .few) rule (right i) (live .words) z m (held (pairs-says _ _ (m .keeps .words) .0 keeps) (pairs-says _ _ (m .breaks .words) .0 breaks)) event) el
           ∙ ap (λ (z : Outcome). watched z m after) (sym g ∙ step-checked)
         where
           held : PairSet (table p fair label next rule) (formula p fair label next rule) (m .keeps .words) → PairSet (table p fair label next rule) (formula p fair label next rule) (m .breaks .words)

@@ -35,8 +35,9 @@ use Rattle.log.specs.Legal.{seenOf}
 use Rattle.checks.specs.Checks.{andThen, unless, inputOutcome}
 use Rattle.checks.specs.Exactly.{chain-accepts, chain-refuses, unless-accepts, unless-refuses}
 use Rattle.checks.proofs.Input.{Input, given, input-accepted, value-refused}
-use Rattle.monitor.specs.declared.Monitor.{Monitor}
-use Rattle.monitor.specs.Calls.{modelOf, eventOf, none, lampOf, watched, table, formula, checkedOf, openOf, stepChecked, stepOf}
+use Rattle.advance.specs.declared.Monitor.{Monitor}
+use Rattle.advance.specs.Held.{modelOf, eventOf}
+use Rattle.monitor.specs.Calls.{none, lampOf, watched, table, formula, checkedOf, openOf, stepChecked, stepOf}
 
 -- the lamp on paper: the verdict's number and `left`
 pub lamp-paper : (m : model.Monitor) → paper (lampOf m) ≡ verdict (model.verdict m) (model.left m)

@@ -5,7 +5,6 @@ use mathlib.Core.List.{List}
 use lib.ListN.{replicate}
 use Rattle.meaning.specs.Formula.{Formula}
 use Rattle.meaning.specs.Run as run
-use Rattle.meaning.specs.Event as meaning
 use Rattle.pairs.specs.declared.Pairs.{Pairs}
 use Rattle.pairs.specs.Sets.{emptyOf}
 use Rattle.model.specs.Monitor as model
@@ -22,19 +21,9 @@ use Rattle.syntax.specs.declared.Rule.{Rule}
 use Rattle.log.specs.declared.Event.{Event}
 use Rattle.log.specs.Legal.{seenOf}
 use Rattle.checks.specs.Checks.{andThen, unless, formulaOf, inputOutcome}
-use Rattle.monitor.specs.declared.Monitor.{Monitor}
+use Rattle.advance.specs.declared.Monitor.{Monitor}
+use Rattle.advance.specs.Held.{modelOf, monitorOf, eventOf}
 use Rattle.monitor.specs.declared.Watched.{Watched}
-
--- ---- a monitor and an event, as code has them and as the model has them
-
-abbrev pub modelOf : Monitor → model.Monitor
-modelOf m = record { seen = m .seen; keeps = m .keeps .words; breaks = m .breaks .words }
-
-abbrev pub monitorOf : model.Monitor → Monitor
-monitorOf m = record { seen = m .seen; keeps = record { words = m .keeps }; breaks = record { words = m .breaks } }
-
-abbrev pub eventOf : Event → meaning.Event
-eventOf e = record { seen = seenOf e; new = e .new }
 
 -- the monitor beside a refusal to open one
 abbrev pub none : Monitor

@@ -12,7 +12,7 @@ use Rattle.syntax.specs.declared.Rule.{Rule}
 use Rattle.log.specs.declared.Event.{Event}
 use Rattle.log.specs.Legal.{legalOf}
 use Rattle.checks.specs.Checks.{andThen, unless, formulaOf, pairsFit}
-use Rattle.monitor.specs.declared.Monitor.{Monitor}
+use Rattle.advance.specs.declared.Monitor.{Monitor}
 use Rattle.monitor.specs.Calls.{checkedOf}
 
 module _ (p : Plant) (fair label next : List ℕ) (rule : Rule) where

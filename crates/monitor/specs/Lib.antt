@@ -1,4 +1,2 @@
 pub mod Calls
 pub mod Checked
-pub mod Sides
-pub mod Right

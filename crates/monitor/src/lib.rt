@@ -1,35 +1,19 @@
-// The monitor: opened, looked at, stepped, by value.
-mod opening;
-mod sides;
+// The monitor: opened, looked at, stepped, by value. Here are the checks and the calls; how it moves is in advance.
+mod single;
 
+pub use advance::Monitor;
 use answers::Answer;
 use answers::Kind;
-use answers::Lamp;
 use answers::Outcome;
 use answers::Refusal;
-use answers::Verdict;
 use log::Event;
 use pairs::Pairs;
 use plant::Plant;
 use syntax::Rule;
 ghost use mathlib.Core.Path.{_≡_};
-ghost use Rattle.monitor.specs.Calls.{modelOf, lampOf, openOf, lookOf, stepOf};
+ghost use Rattle.advance.specs.Held.{modelOf};
+ghost use Rattle.monitor.specs.Calls.{lampOf, openOf, lookOf, stepOf};
 ghost use Rattle.monitor.specs.Checked.{heldOf, caughtOf};
-
-// Whether an event came, and the pairs of the runs that keep the rule and of those that break it.
-pub struct Monitor {
-    pub seen: bool,
-    pub keeps: Pairs,
-    pub breaks: Pairs,
-}
-
-impl Monitor {
-    pub const NONE: Monitor = Monitor {
-        seen: false,
-        keeps: Pairs::EMPTY,
-        breaks: Pairs::EMPTY,
-    };
-}
 
 // The answer, and beside it the monitor. With a refusal it is the monitor handed in; `open` has none, and gives the empty one.
 pub struct Watched {
@@ -41,14 +25,7 @@ pub struct Watched {
 fn lamp(monitor: Monitor) -> Answer
     ensures { λ r. ⌜ r ≡ lampOf (modelOf monitor) ⌝ }
 {
-    let keeps = monitor.keeps;
-    let breaks = monitor.breaks;
-    let kept = keeps.states();
-    let broken = breaks.states();
-    Answer::Shown(Lamp {
-        verdict: Verdict::of(kept != 0, broken != 0),
-        left: pairs::count_states(keeps, breaks),
-    })
+    Answer::Shown(advance::lamp(monitor))
 }
 
 // Checks 1, 2 and 9: the table, the rule, and two sets of pairs.
@@ -97,7 +74,7 @@ pub fn open(
             monitor: Monitor::NONE,
         },
         Outcome::Accepted => {
-            let monitor = opening::opened(plant.start, label, rule, live);
+            let monitor = single::opened(plant.start, label, rule, live);
             Watched {
                 answer: lamp(monitor),
                 monitor,
@@ -174,7 +151,7 @@ pub fn step(
             monitor,
         },
         Outcome::Accepted => {
-            let stepped = sides::stepped(plant.start, label, next, rule, live, monitor, event);
+            let stepped = single::stepped(plant.start, label, next, rule, live, monitor, event);
             Watched {
                 answer: lamp(stepped),
                 monitor: stepped,

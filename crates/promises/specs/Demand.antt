@@ -28,8 +28,9 @@ use Rattle.plant.specs.declared.Plant.{Plant}
 use Rattle.syntax.specs.declared.Rule.{Rule}
 use Rattle.log.specs.declared.Event.{Event}
 use Rattle.checks.proofs.Input.{Input}
-use Rattle.monitor.specs.declared.Monitor.{Monitor}
-use Rattle.monitor.specs.Calls.{eventOf, lampOf}
+use Rattle.advance.specs.declared.Monitor.{Monitor}
+use Rattle.advance.specs.Held.{eventOf}
+use Rattle.monitor.specs.Calls.{lampOf}
 use Rattle.monitor.proofs.Promises.{lamp-paper}
 use Rattle.promises.specs.Watching as watching
 use Rattle.promises.specs.Watching.{AllLegal, after-model}

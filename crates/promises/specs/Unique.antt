@@ -16,14 +16,14 @@ use Rattle.rule.specs.Printing.{printAnswer, printBuffer}
 use Rattle.log.specs.declared.Event.{Event}
 use Rattle.log.specs.Legal.{legalOf}
 use Rattle.log.specs.Read.{logRead, eventAt}
-use Rattle.monitor.specs.declared.Monitor.{Monitor}
+use Rattle.advance.specs.declared.Monitor.{Monitor}
 use Rattle.monitor.specs.Calls.{openOf, lookOf, stepOf}
 use Rattle.live.specs.Prepare.{preparedOf}
 use Rattle.answers.specs.declared.Refusal.{Refusal}
 use Rattle.answers.specs.declared.Outcome.{Outcome}
 use Rattle.answers.specs.declared.Outcome.the-variants.{Accepted, Refused}
 use Rattle.model.specs.Monitor as model
-use Rattle.monitor.specs.Calls.{modelOf}
+use Rattle.advance.specs.Held.{modelOf}
 use Rattle.walk.specs.declared.Lengths.{Lengths}
 use Rattle.walk.specs.Shows.{Shows}
 use Rattle.witness.specs.declared.Witnessed.{Witnessed}

@@ -22,7 +22,8 @@ use Rattle.log.specs.Legal.{seenOf}
 use Rattle.checks.specs.Checks.{formulaOf}
 use Rattle.checks.proofs.Input.{Input, input-accepted}
 use Rattle.monitor.specs.declared.Watched.{Watched}
-use Rattle.monitor.specs.Calls.{monitorOf, eventOf, lampOf, none, watched, openOf, stepOf}
+use Rattle.advance.specs.Held.{monitorOf, eventOf}
+use Rattle.monitor.specs.Calls.{lampOf, none, watched, openOf, stepOf}
 use Rattle.monitor.proofs.Promises.{open-accepted, step-accepted}
 use Rattle.live.specs.Prepare.{preparedAs, preparedOf}
 

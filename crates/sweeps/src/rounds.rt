@@ -89,13 +89,13 @@ fn settle(
 }
 
 // From all pairs of the table, those from which every goal is met again and again.
-pub fn lasting(
+pub fn lasting<'a>(
     states: usize,
     fair: &[u64],
     next: &[u64],
-    leave: &[u64; 1024],
-    enter: &[u64; 1024],
-    settled: &[u64; 384],
+    leave: &'a [u64; 1024],
+    enter: &'a [u64; 1024],
+    settled: &'a [u64; 384],
     parts: usize,
 ) -> Pairs
     requires { ⌜ ((1 ≤ states) × (states ≤ 64)) × (parts ≤ 6) × (length (now fair) ≤ 4) ⌝ }

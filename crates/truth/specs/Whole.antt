@@ -1,4 +1,4 @@
--- The whole values that `tables_of` and `move_tables_of` return, from what their calls ensure.
+-- The whole values that `tables_of`, `move_tables_of` and `holds_of` return, from what their calls ensure.
 use Prim.Native.Nat.{ℕ}
 use mathlib.Core.Path.{_≡_, ap}
 use mathlib.Core.List.{List}
@@ -6,6 +6,7 @@ use Rattle.syntax.specs.declared.Rule.{Rule}
 use Rattle.shape.specs.declared.Shape.{Shape}
 use Rattle.shape.specs.Shape.{Shaped}
 use Rattle.truth.specs.declared.tables.MoveTables.{MoveTables}
+use Rattle.truth.specs.declared.tables.Tables.{Tables}
 use Rattle.truth.specs.declared.rows.Asked.the-variants.{Low, High, Operand, Settled}
 use Rattle.truth.specs.Nodes.{holdsOf}
 use Rattle.truth.specs.Tables.{wordsIn, wordsBy, rowsIn, rowsBy, moveTablesFrom, moveTablesIn, tablesFrom, tablesOf}
@@ -40,3 +41,7 @@ module _ (label : List ℕ) (rule : Rule) (shape : Shape) (words : List ℕ) (s 
   pub move-tables-whole : moveTablesFrom shape words ≡ moveTablesIn (tablesOf label rule)
   unfolding moveTablesFrom tablesFrom
   move-tables-whole = ap moveTablesIn tables-whole
+
+  pub holds-whole : holdsOf words (rule .len) ≡ tablesOf label rule .holds
+  unfolding tablesFrom
+  holds-whole = ap (λ (t : Tables). t .holds) tables-whole

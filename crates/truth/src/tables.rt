@@ -1,4 +1,5 @@
 // All that moves go by, of labels and a rule.
+use crate::nodes::Holds;
 use crate::nodes::Nodes;
 use crate::nodes::node_words;
 use crate::nodes::propositions;
@@ -108,6 +109,17 @@ pub fn move_tables_of(label: &[u16], rule: Rule) -> MoveTables
     let shape = shape_of(rule);
     let nodes = words_of(label, rule, shape);
     move_tables_from(shape, &nodes.words)
+}
+
+// What an opening works out of them: where the rule itself holds.
+pub fn holds_of(label: &[u16], rule: Rule) -> Holds
+    requires { ⌜ Ready (now label) rule ⌝ }
+    ensures { λ r. ⌜ r .words ≡ tablesOf (now (label .entry)) rule .holds ⌝ }
+{
+    let len = rule.len;
+    let shape = shape_of(rule);
+    let nodes = words_of(label, rule, shape);
+    rule_words(&nodes.words, len)
 }
 
 // What the other calls work out of them.

@@ -76,13 +76,13 @@ fn write_far(
 
 // Writes the walk of a witness for some live pair of the asked set: the stem, and the loop from the byte after it. It stays where it comes to
 // a pair at which it can.
-pub fn write_walk(
+pub fn write_walk<'a>(
     next: &[u64],
-    leave: &[u64; 1024],
-    enter: &[u64; 1024],
+    leave: &'a [u64; 1024],
+    enter: &'a [u64; 1024],
     count: usize,
     fair: &[u64],
-    settled: &[u64; 384],
+    settled: &'a [u64; 384],
     parts: usize,
     live: &[u64; 64],
     asked: &[u64; 64],

@@ -16,7 +16,6 @@ use Rattle.model.specs.Sets.{nodesOf}
 use Rattle.model.specs.LiveSet.{meetOf, liveSet}
 use Rattle.model.specs.Lives.{live-set}
 use Rattle.model.specs.Witness.{hasLive}
-use Rattle.leads.specs.Halves.{leavingOf, enteringOf}
 use Rattle.sweeps.specs.Rounds.{lastingOf}
 use Rattle.answers.specs.declared.Kind.the-variants.{Value, Room, NoPair}
 use Rattle.answers.specs.declared.Lamp.{Lamp}
@@ -29,16 +28,18 @@ use Rattle.answers.specs.Paper.{refusedAt}
 use Rattle.plant.specs.declared.Plant.{Plant}
 use Rattle.plant.specs.Table.{plantOf}
 use Rattle.syntax.specs.declared.Rule.{Rule}
-use Rattle.truth.specs.declared.tables.Tables.{Tables}
 use Rattle.truth.specs.Tables.{tablesOf}
+use Rattle.ways.specs.declared.Ways.{Ways}
+use Rattle.ways.specs.Ways.{waysOf}
 use Rattle.checks.specs.Checks.{unless, formulaOf, inputOutcome}
 use Rattle.checks.specs.Exactly.{first-refuses, first-passes, test-passes, test-fails, chain-accepts, unless-accepts}
 use Rattle.checks.proofs.Input.{Input}
 use Rattle.checks.proofs.Given.{right}
 use Rattle.live.specs.Right.{live-is}
 use Rattle.live.proofs.Given.{live-set-is}
-use Rattle.monitor.specs.declared.Monitor.{Monitor}
-use Rattle.monitor.specs.Calls.{modelOf, lit, checkedOf, lookOf}
+use Rattle.advance.specs.declared.Monitor.{Monitor}
+use Rattle.advance.specs.Held.{modelOf}
+use Rattle.monitor.specs.Calls.{lit, checkedOf, lookOf}
 use Rattle.walk.specs.declared.Lengths.{Lengths}
 use Rattle.walk.specs.Legs.{Walked}
 use Rattle.witness.specs.declared.Witnessed.{Witnessed}
@@ -128,16 +129,16 @@ module _ {p : Plant} {fair label next : List ℕ} {rule : Rule} (i : Input p fai
   f = formulaOf rule
 
   -- the live pairs by what the code worked out
-  pub found-live : {t : Tables} {leave enter live : List ℕ} → t ≡ tablesOf label rule
-      → leave ≡ leavingOf (t .parts) (t .low) (t .high) → enter ≡ enteringOf (t .parts) (t .nexts) (t .operand)
-      → live ≡ lastingOf fair next leave enter (t .settled) (t .parts) (p .states) → live ≡ liveSet T f
-  found-live e el ee er = live-is (p .states) fair label next rule e el ee er ∙ live-set-is p fair label next rule i
+  pub found-live : {w : Ways} {live : List ℕ} → w ≡ waysOf label rule
+      → live ≡ lastingOf fair next (w .leave) (w .enter) (w .settled) (w .parts) (p .states) → live ≡ liveSet T f
+  found-live e er = live-is (p .states) fair label next rule e er ∙ live-set-is p fair label next rule i
 
   module _ {live : List ℕ} (is : live ≡ liveSet T f) where
     pub long : length live ≡ 64
     long = ap length is ∙ live-set T f (i .table) (i .few) .long
 
-    pub goes-on : Fair (movesIn (tablesOf label rule) next) (debtsIn (tablesOf label rule) fair) (nodesOf live)
+    pub goes-on : Fair (movesIn (waysOf label rule) next) (debtsIn (waysOf label rule) fair) (nodesOf live)
+    unfolding waysOf
     goes-on = rw is (run-is-fair T f (i .table) (i .few) (tablesOf label rule) (right i))
 
     module _ (asked before : List ℕ) {both : List ℕ} (b : both ≡ meetOf asked live) {none : Bool} (k : none ≡ emptyOf both) where
@@ -154,7 +155,8 @@ module _ {p : Plant} {fair label next : List ℕ} {rule : Rule} (i : Input p fai
         begins = rw is (run-begins T f (i .table) (i .few) (tablesOf label rule) (right i) asked (has-some ∙ ap not n))
 
         pub goes : {l : Lengths} {now : List ℕ}
-            → Walked (movesIn (tablesOf label rule) next) (debtsIn (tablesOf label rule) fair) (nodesOf live) (nodesOf asked) before now (l .stem) (l .turn)
+            → Walked (movesIn (waysOf label rule) next) (debtsIn (waysOf label rule) fair) (nodesOf live) (nodesOf asked) before now (l .stem) (l .turn)
             → Sought T f asked before now (Answers.Run l)
+        unfolding waysOf
         goes {l} {now} w = subst (λ (o : Outcome). AnsweredAs T f asked o before now (Answers.Run l)) (test-passes NoPair (has-some ∙ ap not n) refl)
             (l, refl, run-shows T f (i .table) (i .few) (tablesOf label rule) (right i) (rw is at w))

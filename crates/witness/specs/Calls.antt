@@ -17,8 +17,9 @@ use Rattle.plant.specs.declared.Plant.{Plant}
 use Rattle.plant.specs.Table.{plantOf}
 use Rattle.syntax.specs.declared.Rule.{Rule}
 use Rattle.checks.specs.Checks.{andThen, unless, formulaOf}
-use Rattle.monitor.specs.declared.Monitor.{Monitor}
-use Rattle.monitor.specs.Calls.{modelOf, checkedOf}
+use Rattle.advance.specs.declared.Monitor.{Monitor}
+use Rattle.advance.specs.Held.{modelOf}
+use Rattle.monitor.specs.Calls.{checkedOf}
 use Rattle.walk.specs.declared.Lengths.{Lengths}
 use Rattle.walk.specs.Shows.{Shows}
 use Rattle.witness.specs.declared.Witnessed.{Witnessed}

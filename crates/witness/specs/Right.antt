@@ -1,4 +1,4 @@
--- With right tables the walk is a witness.
+-- With what an accepted rule says the walk is a witness.
 use Prim.Native.Nat.{ℕ}
 use mathlib.Core.Bool.{So}
 use mathlib.Core.List.{List}
@@ -13,6 +13,7 @@ use Rattle.leads.specs.Halves.{leavingOf, enteringOf}
 use Rattle.leads.specs.Right.{from-halves, to-halves}
 use Rattle.truth.specs.declared.tables.Tables.{Tables}
 use Rattle.truth.specs.Right.{RightTables}
+use Rattle.ways.specs.Ways.{waysFrom}
 use Rattle.walk.specs.Legs.{Walked}
 use Rattle.walk.specs.Shows.{RightHalves, Shows, live-fair, live-asked, walked-shows}
 use Rattle.witness.specs.Run.{movesIn, debtsIn}
@@ -31,13 +32,13 @@ module _ (T : Plant) (f : Formula) (A : AcceptedTable T) (small : Small f) (t : 
   }
 
   -- every live pair can go on, and to every debt
-  pub run-is-fair : Fair (movesIn t (T .next)) (debtsIn t (T .fair)) (nodesOf (liveSet T f))
+  pub run-is-fair : Fair (movesIn (waysFrom t) (T .next)) (debtsIn (waysFrom t) (T .fair)) (nodesOf (liveSet T f))
   run-is-fair = rw (R .count) (live-fair T f A small leave enter (t .settled) halves (R .settled))
 
   -- where the asked set has a live pair, here is one
   pub run-begins : (asked : List ℕ) → So (hasLive T f asked) → (y : ℕ) × (So (nodesOf asked y) × So (nodesOf (liveSet T f) y))
   run-begins asked e = live-asked T f A small leave enter (t .settled) halves (R .settled) asked e
 
-  pub run-shows : {asked before now : List ℕ} {stem turn : ℕ} → Walked (movesIn t (T .next)) (debtsIn t (T .fair)) (nodesOf (liveSet T f)) (nodesOf asked) before now stem turn
+  pub run-shows : {asked before now : List ℕ} {stem turn : ℕ} → Walked (movesIn (waysFrom t) (T .next)) (debtsIn (waysFrom t) (T .fair)) (nodesOf (liveSet T f)) (nodesOf asked) before now stem turn
       → Shows T f asked before now stem turn
   run-shows w = walked-shows T f A small leave enter (t .settled) halves (R .settled) (rw (R .count) at w)

@@ -1,13 +1,12 @@
-// The run of a witness by the tables of a rule, which are made once: for the live pairs, and for the walk through them.
+// The run of a witness by what the rule says, which is worked out once: for the live pairs, and for the walk through them.
 use crate::Witnessed;
 use answers::Kind;
 use answers::Refusal;
-use leads::halves::entering;
-use leads::halves::leaving;
 use plant::Plant;
 use sweeps::reach::meet;
 use sweeps::rounds::lasting;
 use syntax::Rule;
+use ways::ways_of;
 ghost use mathlib.Core.Path.{_≡_};
 ghost use Prim.Native.Nat.{_≤_};
 ghost use lib.ListN.{length};
@@ -30,31 +29,28 @@ pub fn write_run(
     ensures { λ r. ⌜ Sought (plantOf plant (now (fair .entry)) (now (label .entry)) (now (next .entry))) (formulaOf rule) (now (asked .entry))
         (now (buffer .entry)) (now (buffer .exit)) r ⌝ }
 {
-    let tables = truth::tables::tables_of(label, rule);
-    let leave = leaving(tables.parts, &tables.low, &tables.high);
-    let enter = entering(tables.parts, tables.nexts, &tables.operand);
+    let ways = ways_of(label, rule);
     let live = lasting(
         plant.states,
         fair,
         next,
-        &leave.words,
-        &enter.words,
-        &tables.settled,
-        tables.parts,
+        &ways.leave,
+        &ways.enter,
+        &ways.settled,
+        ways.parts,
     );
     let both = meet(asked, &live.words);
     if both.is_empty() {
         return Witnessed::Refused(Refusal::at(Kind::NoPair, 0));
     }
-    let count = moves::valuations(tables.parts);
     let lengths = walk::write_walk(
         next,
-        &leave.words,
-        &enter.words,
-        count,
+        &ways.leave,
+        &ways.enter,
+        ways.count,
         fair,
-        &tables.settled,
-        tables.parts,
+        &ways.settled,
+        ways.parts,
         &live.words,
         asked,
         buffer,

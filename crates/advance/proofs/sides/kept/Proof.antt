@@ -1,0 +1,14 @@
+-- `kept`: both sides cut. Assumes nothing.
+use mathlib.Core.Path.{ap₂}
+use mathlib.Core.Bool.{true}
+use borrow.Author.Needs.{needs}
+use Rattle.advance.specs.Sides.{sidesOf, keptOf}
+use Rattle.advance.proofs.sides.kept.Statement.{statement}
+use Rattle.advance.proofs.sides.kept.Tie as tie
+
+returns : tie.Need-returns
+unfolding keptOf
+returns c = ap₂ (sidesOf true) (c .before .before .before .cut .ensures) (c .cut2 .ensures)
+
+pub kept-spec : {M : Type 1} → statement M
+kept-spec = tie.close (tie.spec (λ c κs. search needs) (λ c κs. search needs) returns)

@@ -1,0 +1,72 @@
+// One event more, with all that a rule says lent, and nothing checked: what the monitor does behind its checks, and a loop over many events
+// in each turn.
+pub mod opening;
+pub mod sides;
+
+use answers::Lamp;
+use answers::Verdict;
+use log::Event;
+use opening::opened;
+use pairs::Pairs;
+use sides::kept;
+use sides::moved;
+ghost use mathlib.Core.Path.{_≡_};
+ghost use Prim.Native.Nat.{_≤_};
+ghost use lib.ListN.{length};
+ghost use Rattle.advance.specs.Held.{modelOf, lampIn};
+ghost use Rattle.advance.specs.Sides.{advancedBy};
+
+// Whether an event came, and the pairs of the runs that keep the rule and of those that break it.
+pub struct Monitor {
+    pub seen: bool,
+    pub keeps: Pairs,
+    pub breaks: Pairs,
+}
+
+impl Monitor {
+    pub const NONE: Monitor = Monitor {
+        seen: false,
+        keeps: Pairs::EMPTY,
+        breaks: Pairs::EMPTY,
+    };
+}
+
+// At the first event nothing moves, and its restart flag is not looked at.
+pub fn advance<'a>(
+    start: u64,
+    label: &[u16],
+    next: &[u64],
+    leave: &'a [u64; 1024],
+    enter: &'a [u64; 1024],
+    holds: &'a [u64; 64],
+    count: usize,
+    live: &[u64; 64],
+    monitor: Monitor,
+    event: Event,
+) -> Monitor
+    requires { ⌜ (length (now label) ≤ 64) × (count ≤ 64) ⌝ }
+    ensures { λ r. ⌜ r ≡ advancedBy start (now (label .entry)) (now (next .entry)) (now (leave .entry)) (now (enter .entry)) (now (holds .entry)) count (now (live .entry)) monitor event ⌝ }
+{
+    let agree = labels::agreeing(label, event.see, event.val);
+    if monitor.seen {
+        if event.new {
+            return kept(opened(start, holds, live), live, agree);
+        }
+        return moved(next, leave, enter, count, live, monitor, agree);
+    }
+    kept(monitor, live, agree)
+}
+
+// What the lamp shows.
+pub fn lamp(monitor: Monitor) -> Lamp
+    ensures { λ r. ⌜ r ≡ lampIn (modelOf monitor) ⌝ }
+{
+    let keeps = monitor.keeps;
+    let breaks = monitor.breaks;
+    let kept = keeps.states();
+    let broken = breaks.states();
+    Lamp {
+        verdict: Verdict::of(kept != 0, broken != 0),
+        left: pairs::count_states(keeps, breaks),
+    }
+}

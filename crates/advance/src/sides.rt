@@ -1,0 +1,61 @@
+// Where runs can be after one more event: where they were, or where moves lead.
+use crate::Monitor;
+use leads::images::image;
+use pairs::Pairs;
+ghost use mathlib.Core.Path.{_≡_};
+ghost use Prim.Native.Nat.{_≤_};
+ghost use Rattle.advance.specs.Sides.{cutOf, keptOf, movedBy};
+
+// Of the pairs held, the live ones with states of `agree`.
+fn cut(held: &[u64; 64], live: &[u64; 64], agree: u64) -> Pairs
+    ensures { λ r. ⌜ r .words ≡ cutOf (now (held .entry)) (now (live .entry)) agree ⌝ }
+{
+    let mut words = [0u64; 64];
+    for v in 0..64 {
+        words[v] = words::entry(live, v) & agree & words::entry(held, v);
+    }
+    Pairs { words }
+}
+
+// No move: both sets cut.
+pub fn kept(monitor: Monitor, live: &[u64; 64], agree: u64) -> Monitor
+    ensures { λ r. ⌜ r ≡ keptOf monitor (now (live .entry)) agree ⌝ }
+{
+    let keeps = cut(&monitor.keeps.words, live, agree);
+    let breaks = cut(&monitor.breaks.words, live, agree);
+    Monitor {
+        seen: true,
+        keeps,
+        breaks,
+    }
+}
+
+// A move: the image of both sets.
+pub fn moved<'a>(
+    next: &[u64],
+    leave: &'a [u64; 1024],
+    enter: &'a [u64; 1024],
+    count: usize,
+    live: &[u64; 64],
+    monitor: Monitor,
+    agree: u64,
+) -> Monitor
+    requires { ⌜ count ≤ 64 ⌝ }
+    ensures { λ r. ⌜ r ≡ movedBy (now (next .entry)) (now (leave .entry)) (now (enter .entry)) count (now (live .entry)) monitor agree ⌝ }
+{
+    let keeps = image(next, leave, enter, count, &monitor.keeps.words, live, agree);
+    let breaks = image(
+        next,
+        leave,
+        enter,
+        count,
+        &monitor.breaks.words,
+        live,
+        agree,
+    );
+    Monitor {
+        seen: true,
+        keeps,
+        breaks,
+    }
+}

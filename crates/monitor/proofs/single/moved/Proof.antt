@@ -1,0 +1,16 @@
+-- `moved`: by what a move asks. Assumes nothing.
+use borrow.Author.Needs.{needs}
+use Rattle.ways.specs.Ways.{few-ways}
+use Rattle.monitor.proofs.single.moved.Statement.{statement}
+use Rattle.monitor.proofs.single.moved.Tie as tie
+
+moved-requires : tie.Need-moved-requires
+moved-requires c κs =
+    let told = c .before .before .before .before .before in
+    rw (told .move-ways-of .ensures) (few-ways (told .before .before .before .pre))
+
+returns : tie.Need-returns
+returns c = rw (c .before .before .before .before .before .before .move-ways-of .ensures) at (c .moved .ensures)
+
+pub moved-spec : {M : Type 1} → statement M
+moved-spec = tie.close (tie.spec (λ c κs. search needs) moved-requires returns)
