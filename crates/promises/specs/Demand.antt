@@ -32,8 +32,8 @@ use Rattle.advance.specs.declared.Monitor.{Monitor}
 use Rattle.advance.specs.Held.{eventOf}
 use Rattle.monitor.specs.Calls.{lampOf}
 use Rattle.monitor.proofs.Promises.{lamp-paper}
-use Rattle.promises.specs.Watching as watching
-use Rattle.promises.specs.Watching.{AllLegal, after-model}
+use Rattle.watching.specs.Watching as watching
+use Rattle.watching.specs.Watching.{AllLegal, after-model}
 
 -- the first set (b is true) and the second
 abbrev pub sideOf : Monitor → Bool → List ℕ

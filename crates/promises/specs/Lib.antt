@@ -1,4 +1,3 @@
-pub mod Watching
 pub mod Demand
 pub mod Marked
 pub mod Laws
