@@ -1,0 +1,70 @@
+-- `turns`: line after line as the definition goes (`Gone`). Assumes nothing.
+use Prim.Native.Nat.{_-_, _*_, _/_, _^_, _≤_, _<_, zero-le}
+use mathlib.Core.Path.{_≡_, refl, sym, subst, _∙_}
+use native.Mathlib.Nat.{le-antisymm}
+use native.Mathlib.Omega.{arith}
+use lib.ListN.{length}
+use borrow.Author.Needs.{needs}
+use borrow.Author.Tests.{not-true, not-false}
+use Rattle.course.specs.Turns.{Gone, starts, goes-on, stops, ends, verdicts-long, lefts-long}
+use Rattle.course.proofs.turns.Statement.{statement}
+use Rattle.course.proofs.turns.Tie as tie
+
+abbrev Inv-loop : tie.InvT-loop
+Inv-loop plant label next text verdicts₀ lefts₀ ways live now₀ lines n₀ verdicts lefts now n =
+    (n ≤ lines) × (lines * 20 < 2 ^ 64) × (lines ≡ length text / 20) × Gone plant label next ways live now₀ text verdicts₀ lefts₀ n now verdicts lefts
+
+abbrev μ-loop : tie.MeasureT-loop
+μ-loop plant label next text verdicts₀ lefts₀ ways live now₀ lines n₀ verdicts lefts now n = lines - n
+
+loop-holds : tie.Need-loop-holds Inv-loop μ-loop
+loop-holds c = (zero-le, omega arith, refl, starts _ _ _ _ _ _ _ _ _)
+
+same-length : tie.Need-same-length Inv-loop μ-loop
+same-length c = verdicts-long _ _ _ _ _ _ _ _ _ (c .before .before .before .before .before .loop .inv .3)
+
+same-length-2 : tie.Need-same-length-2 Inv-loop μ-loop
+same-length-2 c = lefts-long _ _ _ _ _ _ _ _ _ (c .before .before .before .before .before .loop .inv .3)
+
+returns : tie.Need-returns Inv-loop μ-loop
+returns c =
+    let told = c .before .before in
+    let top = told .before .before in
+    let inv = top .before .loop .inv in
+    stops _ _ _ _ _ _ _ _ _ (inv .3) (told .before .event-at .ensures) _
+    (sym (told .is-legal .ensures) ∙ not-true _ (c .before .if1 .taken)) (omega (arith, top .loop-test .taken, inv .2)) (c .at .ensures)
+
+add-n : tie.Need-add-n Inv-loop μ-loop
+add-n c =
+    let top = c .before .before .before .before .before .before .before .before .before .before .before .before .before .before .before .before .before .before .before .before .before in
+    record { fits = omega (arith, top .loop-test .taken, top .before .loop .inv .1) }
+
+loop-less : tie.Need-loop-less Inv-loop μ-loop
+loop-less c =
+    let top = c .before .before .before .before .before .before .before .before .before .before .before .before .before .before .before .before .before .before .before .before .before in
+    omega (arith, top .loop-test .taken)
+
+loop-again : tie.Need-loop-again Inv-loop μ-loop
+loop-again c =
+    let stored = c .before .before .before .before .before .before .before in
+    let shown = stored .before .before .before in
+    let legal = shown .before .before .before .before .before .before .before .before in
+    let top = legal .before .before .before in
+    let inv = top .before .loop .inv in (
+      omega (arith, top .loop-test .taken),
+      inv .1,
+      inv .2,
+      goes-on _ _ _ _ _ _ _ _ _ (inv .3) (legal .before .before .event-at .ensures) (sym (legal .before .is-legal .ensures) ∙ not-false _ (legal .if1 .left))
+          (shown .before .advance .ensures) (shown .lamp .ensures) (stored .before .number .ensures) refl (stored .store .ensures) (c .before .before .store2 .ensures),
+    )
+
+returns-2 : tie.Need-returns-2 Inv-loop μ-loop
+returns-2 c = let inv = c .before .loop .inv in ends _ _ _ _ _ _ _ _ _ (inv .3) _ (le-antisymm (inv .0) (c .loop-test .left) ∙ inv .2)
+
+pub turns-spec : {M : Type 1} → statement M
+turns-spec =
+    tie.close (tie.spec
+    Inv-loop μ-loop loop-holds (λ c κs. search needs) (λ c κs. search needs) (λ c κs. search needs) same-length same-length-2
+    returns (λ c κs. search needs) (λ c κs. search needs) (λ c κs. search needs) (λ c κs. search needs) (λ c. search needs)
+    (λ c κs. search needs) add-n loop-less loop-again
+    (λ c. verdicts-long _ _ _ _ _ _ _ _ _ (c .before .loop .inv .3)) (λ c. lefts-long _ _ _ _ _ _ _ _ _ (c .before .loop .inv .3)) returns-2)

@@ -1,0 +1,120 @@
+-- The course by what a rule says is the course by the calls; and what callers ask of a course.
+use Prim.Native.Nat.{ℕ, zero, suc, _+_, _/_}
+use native.Mathlib.Nat.{zero-add, suc-add}
+use mathlib.Core.Path.{_≡_, refl, sym, ap, subst, _∙_}
+use mathlib.Core.Bool.{Bool, true, false}
+use mathlib.Core.List.{List}
+use lib.ListN.{length}
+use Rattle.pairs.specs.declared.Pairs.{Pairs}
+use Rattle.model.specs.Sets.{PairSet}
+use Rattle.model.specs.Monitor as model
+use Rattle.answers.specs.declared.Refusal.{Refusal}
+use Rattle.answers.specs.declared.Answer.{Answer}
+use Rattle.answers.specs.declared.Answer.the-variants as Answers
+use Rattle.answers.specs.declared.Outcome.{Outcome}
+use Rattle.answers.specs.declared.Outcome.the-variants.{Accepted, Refused}
+use Rattle.plant.specs.declared.Plant.{Plant}
+use Rattle.syntax.specs.declared.Rule.{Rule}
+use Rattle.log.specs.declared.Event.{Event}
+use Rattle.log.specs.Legal.{legalOf}
+use Rattle.log.specs.Read.{eventAt}
+use Rattle.checks.proofs.Input.{Input, input-accepted}
+use Rattle.checks.proofs.Given.{right, ready}
+use Rattle.truth.specs.Ready.{Ready}
+use Rattle.ways.specs.declared.Ways.{Ways}
+use Rattle.ways.specs.Ways.{waysOf}
+use Rattle.advance.specs.declared.Monitor.{Monitor}
+use Rattle.advance.specs.Held.{modelOf, monitorOf, eventOf}
+use Rattle.advance.specs.Sides.{advancedIn}
+use Rattle.advance.specs.Right.{advanced-right}
+use Rattle.monitor.specs.declared.Watched.{Watched}
+use Rattle.monitor.specs.Calls.{openOf, stepOf}
+use Rattle.watching.specs.Watching.{T, f, Held, live, live-fits, checks-pass, stays-held, open-held, full}
+use Rattle.watching.specs.Watching as watching
+use Rattle.course.specs.declared.Went.{Went}
+use Rattle.course.specs.Course.{Course, takes, goOn, courseTo, courseOf, turnOf, turn, courseIn, Followed, Fitting}
+
+-- ---- whatever a step is
+
+-- an answer tells nothing of the monitor
+takes-monitor : (c : Course) (w : Watched) (a : Answer) → takes c w a .went .monitor ≡ w .monitor
+takes-monitor c w (Answers.Shown l) = refl
+takes-monitor c w (Answers.Refused r) = refl
+
+module _ (step : Monitor → Event → Watched) (m : Monitor) (event : ℕ → Event) where
+  -- behind a refusal nothing more happens
+  pub stays : (n k : ℕ) {r : Refusal} → courseTo step m event n .went .outcome ≡ Refused r → courseTo step m event (k + n) ≡ courseTo step m event n
+  unfolding courseTo
+  stays n zero e = rw zero-add refl
+  stays n (suc k) e =
+      rw suc-add (ap (λ (c : Course). goOn step c (event (k + n)) (c .went .outcome)) (stays n k e) ∙ ap (goOn step (courseTo step m event n) (event (k + n))) e)
+
+-- ---- the calls
+
+module _ (p : Plant) (fair label next : List ℕ) (rule : Rule) (given : Input p fair label next rule) (live : Pairs)
+    (fits : PairSet (T p fair label next rule) (f p fair label next rule) (live .words)) where
+  abbrev calls : Monitor → Event → Watched
+  calls = stepOf p fair label next rule live
+
+  -- a turn of the loop is the public step
+  pub turn-is : (m : Monitor) → Held p fair label next rule m → (e : Event) → turn p label next (waysOf label rule) live m e ≡ calls m e
+  turn-is m held e = ap (turnOf (legalOf e (p .props)) m) new ∙ shown (legalOf e (p .props)) ∙ sym (checks-pass p fair label next rule given live fits m held e)
+    where
+      after : model.Monitor
+      after = model.stepOf (T p fair label next rule) (f p fair label next rule) (live .words) (modelOf m) (eventOf e)
+
+      new : advancedIn (p .start) label next (waysOf label rule) (live .words) m e ≡ monitorOf after
+      new = advanced-right (T p fair label next rule) (f p fair label next rule) (given .table) (given .few) rule (right given) (live .words) fits m held e
+
+      shown : (b : Bool) → turnOf b m (monitorOf after) ≡ watching.takes b m after
+      shown true = refl
+      shown false = refl
+
+  module _ (m : Monitor) (held : Held p fair label next rule m) (event : ℕ → Event) where
+    -- the monitor stays one of the table and the rule
+    pub held-at : (n : ℕ) → Held p fair label next rule (courseTo calls m event n .went .monitor)
+    unfolding courseTo
+    held-at zero = held
+    held-at (suc n) = by (courseTo calls m event n) (held-at n) (courseTo calls m event n .went .outcome)
+      where
+        by : (c : Course) → Held p fair label next rule (c .went .monitor) → (o : Outcome) → Held p fair label next rule (goOn calls c (event n) o .went .monitor)
+        by c h Accepted = rw takes-monitor (stays-held p fair label next rule given live fits (c .went .monitor) h (event n))
+        by c h (Refused r) = h
+
+    -- so the two courses are one
+    pub as-called : (n : ℕ) → courseTo (turn p label next (waysOf label rule) live) m event n ≡ courseTo calls m event n
+    unfolding courseTo
+    as-called zero = refl
+    as-called (suc n) =
+        ap (λ (c : Course). goOn (turn p label next (waysOf label rule) live) c (event n) (c .went .outcome)) (as-called n)
+        ∙ by (courseTo calls m event n) (held-at n) (courseTo calls m event n .went .outcome)
+      where
+        by : (c : Course) → Held p fair label next rule (c .went .monitor) → (o : Outcome)
+            → goOn (turn p label next (waysOf label rule) live) c (event n) o ≡ goOn calls c (event n) o
+        by c h Accepted = ap (λ (w : Watched). takes c w (w .answer)) (turn-is (c .went .monitor) h (event n))
+        by c h (Refused r) = refl
+
+-- ---- for code: by what the rule says, which was worked out
+
+module _ (p : Plant) (fair label next : List ℕ) (rule : Rule) (full : length (rule .nodes) ≡ 32) {live : Pairs} {m : Monitor} (g : Fitting p fair label next rule live m) where
+  given-by : Input p fair label next rule
+  given-by = input-accepted p fair label next rule full .0 (g .input)
+
+  pub fitting-ready : Ready label rule
+  fitting-ready = ready given-by
+
+  pub followed : {w : Ways} → w ≡ waysOf label rule → (text : List ℕ) {verdicts₀ lefts₀ verdicts lefts : List ℕ} {r : Went}
+      → Followed (courseIn p label next w live m text) verdicts₀ lefts₀ verdicts lefts r → Followed (courseOf p fair label next rule live m text) verdicts₀ lefts₀ verdicts lefts r
+  followed e text {verdicts₀} {lefts₀} {verdicts} {lefts} {r} h =
+      subst (λ (c : Course). Followed c verdicts₀ lefts₀ verdicts lefts r) (as-called p fair label next rule given-by live (g .lives) m (g .held) (eventAt text) (length text / 20)) (rw e at h)
+
+-- ---- for callers
+
+-- what `prepare` and `open` give is fitting
+pub opened-fitting : (p : Plant) (fair label next : List ℕ) (rule : Rule) → Input p fair label next rule
+    → Fitting p fair label next rule (live p fair label next rule) (openOf p fair label next rule (live p fair label next rule) .monitor)
+opened-fitting p fair label next rule given = record {
+  input = input-accepted p fair label next rule (full p fair label next rule given) .1 given;
+  lives = live-fits p fair label next rule given;
+  held = open-held p fair label next rule given (live p fair label next rule) (live-fits p fair label next rule given);
+}
