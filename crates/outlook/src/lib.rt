@@ -1,6 +1,10 @@
 // How a run of the plant goes on behind the end of a log: one line for the runs that keep the rule, one for those that break it.
 // It is thin as `program` is: the calls decide, and `report` says what a line is.
+mod given;
+mod play;
+
 use answers::Outcome;
+use answers::Refusal;
 use files::File;
 use libc::STDOUT_FILENO;
 use monitor::Monitor;
@@ -11,11 +15,12 @@ use walk::Lengths;
 use witness::Witnessed;
 ghost use Prim.Native.Nat.{_≤_};
 ghost use lib.ListN.{length};
+ghost use Rattle.io.specs.Counts.{Counts};
 
 // The three files of the folder, as `program` reads them; a refusal is the whole output.
 pub fn run() {
     let mut text = [0u8; File::LOG];
-    let given = program::given::read_given(&mut text);
+    let given = given::read_given(&mut text);
     let outcome = given.outcome;
     let table = given.table;
     let rule = given.rule;
@@ -27,7 +32,7 @@ pub fn run() {
     let label = table.label;
     let next = table.next;
     match outcome {
-        Outcome::Refused(refusal) => program::refuse(refusal),
+        Outcome::Refused(refusal) => refuse(refusal),
         Outcome::Accepted => show_end(
             b"",
             plant,
@@ -50,11 +55,15 @@ pub fn show_end(
     rule: Rule,
     text: &[u8],
 ) {
-    let end = program::play(false, plant, fair, label, next, rule, text);
+    let end = play::play(plant, fair, label, next, rule, text);
+    let outcome = end.outcome;
     let monitor = end.monitor;
-    if end.whole {
-        show_run(name, plant, fair, label, next, rule, monitor, true);
-        show_run(name, plant, fair, label, next, rule, monitor, false);
+    match outcome {
+        Outcome::Refused(refusal) => refuse(refusal),
+        Outcome::Accepted => {
+            show_run(name, plant, fair, label, next, rule, monitor, true);
+            show_run(name, plant, fair, label, next, rule, monitor, false);
+        }
     }
 }
 
@@ -72,7 +81,7 @@ fn show_run(
     let answer = witness::witness(plant, fair, label, next, rule, monitor, keeps, &mut states);
     io::write_all(STDOUT_FILENO, name);
     match answer {
-        Witnessed::Refused(refusal) => program::show(report::no_run_line(keeps, refusal)),
+        Witnessed::Refused(refusal) => show(report::no_run_line(keeps, refusal)),
         Witnessed::Run(lengths) => write_run(keeps, &states, lengths),
     }
 }
@@ -85,4 +94,16 @@ fn write_run(keeps: bool, states: &[u8], lengths: Lengths)
     let mut line = [0u8; Line::RUN];
     let len = report::run_line(&mut line, keeps, &states[..all], stem);
     io::write_all(STDOUT_FILENO, &line[..len]);
+}
+
+fn refuse(refusal: Refusal) {
+    show(report::refused_line(refusal));
+}
+
+fn show(line: Line)
+    requires { ⌜ Counts (line .len) (line .bytes) ⌝ }
+{
+    let len = line.len;
+    let bytes = line.bytes;
+    io::write_all(STDOUT_FILENO, &bytes[..len]);
 }

@@ -4,7 +4,7 @@ mod run;
 
 use crate::pieces::put_decimal;
 use crate::pieces::put_kind;
-use crate::pieces::put_text;
+pub use crate::pieces::put_text;
 use answers::Lamp;
 use answers::Refusal;
 use answers::Verdict;

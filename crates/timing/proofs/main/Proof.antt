@@ -1,7 +1,7 @@
 -- `timing::main` is safe and ends: the parts of a table that was read are lent as its counts say (`lent`).
 -- Assumes nothing.
 use borrow.Author.Needs.{needs}
-use Rattle.program.proofs.Lent.{lent}
+use Rattle.transcript.proofs.Lent.{lent}
 use Rattle.timing.proofs.main.Statement.{statement}
 use Rattle.timing.proofs.main.Tie as tie
 

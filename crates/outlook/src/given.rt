@@ -1,0 +1,102 @@
+// The three files of the folder that a program is run in: plant.txt, rule.txt and log.txt, each read and checked in turn, up to the first refusal.
+use answers::Outcome;
+use answers::Refusal;
+use files::File;
+use plant::Plant;
+use plant::Table;
+use plant::TableRead;
+use rule::RuleRead;
+use syntax::Rule;
+use transcript::texts;
+ghost use Rattle.io.specs.Counts.{Counts};
+ghost use Rattle.transcript.specs.Lent.{Lent};
+
+// The table, the rule, and how many bytes of the lent buffer are the log. With a refusal, what was not read is empty.
+pub struct Given {
+    pub outcome: Outcome,
+    pub table: Table,
+    pub rule: Rule,
+    pub len: usize,
+}
+
+pub fn read_given(text: &mut [u8]) -> Given
+    ensures table { λ r. ⌜ Lent (r .table) ⌝ }
+    ensures log { λ r. ⌜ Counts (r .len) (now (text .exit)) ⌝ }
+{
+    let read = read_plant();
+    let outcome = read.outcome;
+    let table = read.table;
+    match outcome {
+        Outcome::Refused(refusal) => none_of(refusal, table, Rule::empty(), text),
+        Outcome::Accepted => with_table(table, text),
+    }
+}
+
+fn read_plant() -> TableRead
+    ensures { λ r. ⌜ Lent (r .table) ⌝ }
+{
+    let mut text = [0u8; File::PLANT];
+    let file = files::read_file(b"plant.txt", &mut text);
+    let len = file.len;
+    texts::read_plant(file.ok, &text[..len])
+}
+
+// rule.txt, and what follows.
+fn with_table(table: Table, text: &mut [u8]) -> Given
+    requires { ⌜ Lent table ⌝ }
+    ensures table { λ r. ⌜ Lent (r .table) ⌝ }
+    ensures log { λ r. ⌜ Counts (r .len) (now (text .exit)) ⌝ }
+{
+    let plant = table.plant;
+    let just = plant.just;
+    let states = plant.states;
+    let fair = table.fair;
+    let label = table.label;
+    let next = table.next;
+    let read = read_rule(plant, &fair[..just], &label[..states], &next[..states]);
+    let outcome = read.outcome;
+    let rule = read.rule;
+    match outcome {
+        Outcome::Refused(refusal) => none_of(refusal, table, rule, text),
+        Outcome::Accepted => with_rule(table, rule, text),
+    }
+}
+
+fn read_rule(plant: Plant, fair: &[u64], label: &[u16], next: &[u64]) -> RuleRead {
+    let mut text = [0u8; File::RULE];
+    let file = files::read_file(b"rule.txt", &mut text);
+    let len = file.len;
+    texts::read_rule(plant, fair, label, next, file.ok, &text[..len])
+}
+
+// log.txt, and its form.
+fn with_rule(table: Table, rule: Rule, text: &mut [u8]) -> Given
+    requires { ⌜ Lent table ⌝ }
+    ensures table { λ r. ⌜ Lent (r .table) ⌝ }
+    ensures log { λ r. ⌜ Counts (r .len) (now (text .exit)) ⌝ }
+{
+    let file = files::read_file(b"log.txt", text);
+    let len = file.len;
+    let outcome = texts::check_log(file.ok, &text[..len]);
+    Given {
+        outcome,
+        table,
+        rule,
+        len,
+    }
+}
+
+// No log beside a refusal.
+fn none_of(refusal: Refusal, table: Table, rule: Rule, text: &[u8]) -> Given
+    requires { ⌜ Lent table ⌝ }
+    ensures table { λ r. ⌜ Lent (r .table) ⌝ }
+    ensures log { λ r. ⌜ Counts (r .len) (now (text .entry)) ⌝ }
+{
+    let len = io::count(-1, text);
+    Given {
+        outcome: Outcome::Refused(refusal),
+        table,
+        rule,
+        len,
+    }
+}

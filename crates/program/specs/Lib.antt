@@ -1,3 +1,0 @@
-pub mod End
-pub mod Lent
-pub mod Place

@@ -1,0 +1,5 @@
+pub mod End
+pub mod Lent
+pub mod Place
+pub mod Lines
+pub mod Said

@@ -1,0 +1,62 @@
+-- A line for each lamp, and the same from the bytes of verdicts and `left`.
+use Prim.Native.Nat.{ℕ, zero, suc, _≤_, _<_}
+use native.Mathlib.Omega.{arith}
+use mathlib.Core.Path.{_≡_, refl, ap, ap₂, _∙_}
+use mathlib.Core.Bool.{cond}
+use mathlib.Core.List.{List, [], _++_, map}
+use lib.Dec.{eqb}
+use lib.ListN.{length, getD, length-map, List·getD-map, List·getD-append}
+use Rattle.answers.specs.declared.Verdict.{Verdict}
+use Rattle.answers.specs.declared.Verdict.the-variants.{Inconclusive, True, False, OutOfModel}
+use Rattle.answers.specs.declared.Lamp.{Lamp}
+use Rattle.answers.specs.Paper.{numberOf}
+use Rattle.report.specs.Text.{lampText}
+use Rattle.course.specs.Course.{verdictBytes, leftBytes}
+
+-- what stands beyond the last lamp
+abbrev dark : Lamp
+dark = record { verdict = Inconclusive; left = 0 }
+
+-- the first k lines
+unfoldable pub linesTo : ℕ → List Lamp → List ℕ
+linesTo zero lamps = []
+linesTo (suc k) lamps = linesTo k lamps ++ lampText k (getD lamps k dark)
+
+-- a line for each lamp
+abbrev pub linesText : List Lamp → List ℕ
+linesText lamps = linesTo (length lamps) lamps
+
+-- ---- from bytes
+
+abbrev pub numbered : ℕ → Verdict
+numbered n = cond (eqb n 0) Inconclusive (cond (eqb n 1) True (cond (eqb n 2) False OutOfModel))
+
+abbrev pub lampOf : ℕ → ℕ → Lamp
+lampOf verdict left = record { verdict = numbered verdict; left = left }
+
+unfoldable pub byteLines : ℕ → List ℕ → List ℕ → List ℕ
+byteLines zero verdicts lefts = []
+byteLines (suc k) verdicts lefts = byteLines k verdicts lefts ++ lampText k (lampOf (getD verdicts k 0) (getD lefts k 0))
+
+number-back : (v : Verdict) → numbered (numberOf v) ≡ v
+number-back Inconclusive = refl
+number-back True = refl
+number-back False = refl
+number-back OutOfModel = refl
+
+-- the bytes of lamps, with whatever behind them, give their lines, where `left` fits a byte
+module _ (lamps : List Lamp) (fits : leftBytes lamps ≡ map (λ (l : Lamp). l .left) lamps) (verdicts lefts : List ℕ) where
+  lamp-back : (k : ℕ) → k < length lamps → lampOf (getD (verdictBytes lamps ++ verdicts) k 0) (getD (leftBytes lamps ++ lefts) k 0) ≡ getD lamps k dark
+  lamp-back k l =
+      ap₂ lampOf
+      (List·getD-append (verdictBytes lamps) verdicts 0 k (rw length-map l) ∙ List·getD-map (λ (l : Lamp). numberOf (l .verdict)) lamps k dark)
+      (List·getD-append (leftBytes lamps) lefts 0 k (rw length-map l) ∙ ap (λ (s : List ℕ). getD s k 0) fits ∙ List·getD-map (λ (l : Lamp). l .left) lamps k dark)
+      ∙ ap (λ (v : Verdict). record { verdict = v; left = getD lamps k dark .left }) (number-back (getD lamps k dark .verdict))
+
+  lines-back : (k : ℕ) → k ≤ length lamps → byteLines k (verdictBytes lamps ++ verdicts) (leftBytes lamps ++ lefts) ≡ linesTo k lamps
+  unfolding byteLines linesTo
+  lines-back zero h = refl
+  lines-back (suc k) h = ap₂ (λ (s : List ℕ) (l : Lamp). s ++ lampText k l) (lines-back k (omega arith)) (lamp-back k (omega arith))
+
+  pub lines-are : byteLines (length lamps) (verdictBytes lamps ++ verdicts) (leftBytes lamps ++ lefts) ≡ linesText lamps
+  lines-are = lines-back (length lamps) (omega arith)

@@ -1,0 +1,97 @@
+-- THE PROGRAM'S WHOLE OUTPUT, as a text of the three texts that it is given, in 01's order of checks. It stops at the first refusal.
+use Prim.Native.Nat.{ℕ, _*_}
+use mathlib.Core.Bool.{Bool, true, false}
+use mathlib.Core.List.{List, [], _++_}
+use lib.ListN.{take}
+use Rattle.answers.specs.declared.Kind.the-variants.{File as FileKind}
+use Rattle.answers.specs.declared.Answer.{Answer}
+use Rattle.answers.specs.declared.Answer.the-variants as Answers
+use Rattle.answers.specs.declared.Outcome.{Outcome}
+use Rattle.answers.specs.declared.Outcome.the-variants.{Accepted, Refused}
+use Rattle.answers.specs.Paper.{refusedAt}
+use Rattle.plant.specs.declared.Plant.{Plant}
+use Rattle.plant.specs.declared.Table.{Table}
+use Rattle.plant.specs.declared.TableRead.{TableRead}
+use Rattle.plant.specs.Read.{tableRead, refusedRead}
+use Rattle.syntax.specs.declared.Rule.{Rule}
+use Rattle.rule.specs.declared.RuleRead.{RuleRead}
+use Rattle.rule.specs.Reading.{refusedAs, ruleRead}
+use Rattle.log.specs.Read.{logRead}
+use Rattle.live.specs.Prepare.{preparedOf}
+use Rattle.monitor.specs.declared.Watched.{Watched}
+use Rattle.monitor.specs.Calls.{openOf}
+use Rattle.course.specs.Course.{Course, courseOf}
+use Rattle.report.specs.Text.{refusedText, startText}
+use Rattle.transcript.specs.End.{endOf}
+use Rattle.transcript.specs.Place.{placedAt}
+use Rattle.transcript.specs.Lines.{linesText}
+
+-- a file: its bytes, or that it can't be read or is over its size
+pub data File : Type 0 where
+  bytes : List ℕ → File
+  missing : File
+
+abbrev pub fileOf : Bool → List ℕ → File
+fileOf true text = bytes text
+fileOf false text = missing
+
+abbrev pub bytesOf : File → List ℕ
+bytesOf (bytes text) = text
+bytesOf missing = []
+
+-- what is read of each
+abbrev pub plantRead : File → TableRead
+plantRead (bytes text) = tableRead text
+plantRead missing = refusedRead (refusedAt FileKind 0)
+
+-- one final LF of the rule is dropped
+abbrev pub ruleGiven : Plant → List ℕ → List ℕ → List ℕ → File → RuleRead
+ruleGiven p fair label next (bytes text) = ruleRead p fair label next (take (endOf text) text)
+ruleGiven p fair label next missing = refusedAs FileKind 0
+
+abbrev pub logOutcome : File → Outcome
+logOutcome (bytes text) = logRead text .outcome
+logOutcome missing = Refused (refusedAt FileKind 0)
+
+-- a refusal is the last line
+abbrev pub orRefused : Outcome → List ℕ → List ℕ
+orRefused Accepted text = text
+orRefused (Refused r) text = refusedText r
+
+-- behind the last line: nothing, or the refusal of an event at the offset of its line
+abbrev pub stopText : Outcome → ℕ → List ℕ
+stopText Accepted n = []
+stopText (Refused r) n = refusedText (placedAt r (n * 20))
+
+-- the lamps of the log's lines
+abbrev pub behindText : Course → List ℕ
+behindText c = linesText (c .lamps) ++ stopText (c .went .outcome) (c .went .done)
+
+-- and before them the lamp at the start
+abbrev pub openedText : Answer → Course → List ℕ
+openedText (Answers.Shown l) c = startText l ++ behindText c
+openedText (Answers.Refused r) c = refusedText r
+
+module _ (p : Plant) (fair label next : List ℕ) where
+  -- from the start to the log's end: the calls, one after the other
+  unfoldable pub playedText : Rule → List ℕ → List ℕ
+  playedText rule log =
+      let prepared = preparedOf p fair label next rule in
+      let opened = openOf p fair label next rule (prepared .live) in
+      orRefused (prepared .outcome) (openedText (opened .answer) (courseOf p fair label next rule (prepared .live) (opened .monitor) log))
+
+  -- the form of a log is checked before any lamp is shown
+  abbrev pub logText : Rule → File → List ℕ
+  logText rule log = orRefused (logOutcome log) (playedText rule (bytesOf log))
+
+  unfoldable pub ruleText : File → File → List ℕ
+  ruleText rule log = let read = ruleGiven p fair label next rule in orRefused (read .outcome) (logText (read .rule) log)
+
+-- a table lends as many of its parts as it counts
+abbrev pub tableText : Table → File → File → List ℕ
+tableText t rule log =
+    ruleText (t .plant) (take (t .plant .just) (t .fair)) (take (t .plant .states) (t .label)) (take (t .plant .states) (t .next)) rule log
+
+-- plant.txt, rule.txt, log.txt
+unfoldable pub outputOf : File → File → File → List ℕ
+outputOf plant rule log = let read = plantRead plant in orRefused (read .outcome) (tableText (read .table) rule log)
