@@ -2,3 +2,7 @@ pub mod Demand
 pub mod Marked
 pub mod Laws
 pub mod Unique
+pub mod FrontDoor
+mod Lamps
+mod RuleEnd
+pub mod FromTexts

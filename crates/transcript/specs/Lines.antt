@@ -14,7 +14,7 @@ use Rattle.report.specs.Text.{lampText}
 use Rattle.course.specs.Course.{verdictBytes, leftBytes}
 
 -- what stands beyond the last lamp
-abbrev dark : Lamp
+abbrev pub dark : Lamp
 dark = record { verdict = Inconclusive; left = 0 }
 
 -- the first k lines

@@ -1,0 +1,210 @@
+-- From texts to lamps: the readers give what the texts say, and the calls show the rest. Here are the two claims of FrontDoor proved.
+use Prim.Native.Nat.{ℕ, _/_}
+use native.Mathlib.Omega.{arith}
+use mathlib.Core.Path.{_≡_, refl, sym, ap, subst, _∙_}
+use mathlib.Core.Bool.{Bool, true, false, cond}
+use mathlib.Core.List.{List, _++_}
+use mathlib.Core.Logic.{inl, inr, ⊎-elim}
+use lib.Dec.{ltb}
+use lib.ListN.{length, getD, length-map}
+use Rattle.meaning.specs.Formula.{Formula}
+use Rattle.meaning.specs.Run as run
+use Rattle.meaning.specs.Limits.{AcceptedTable}
+use Rattle.text.specs.Slot.{Slot, written}
+use Rattle.text.specs.Written.{textOf, smallOf}
+use Rattle.text.specs.Place.{fills-small}
+use Rattle.text.specs.Small.{only-small}
+use Rattle.text.specs.Many.{below-length}
+use Rattle.answers.specs.declared.Kind.{Kind}
+use Rattle.answers.specs.declared.Kind.the-variants.{RuleLength, RuleText, Proposition, Nodes, Parts}
+use Rattle.answers.specs.declared.Outcome.{Outcome}
+use Rattle.answers.specs.declared.Outcome.the-variants.{Accepted, Refused}
+use Rattle.plant.specs.declared.Plant.{Plant}
+use Rattle.plant.specs.Table.{tableOutcome}
+use Rattle.plant.specs.Check.{accepted-exactly}
+use Rattle.plant.specs.Read.{countsIn, take-padded}
+use Rattle.plant.specs.Written.{tableSlots}
+use Rattle.plant.specs.Promises as plants
+use Rattle.plant.specs.Promises.{accepted-read}
+use Rattle.syntax.specs.declared.Rule.{Rule}
+use Rattle.syntax.specs.declared.Scan.{Scan}
+use Rattle.syntax.specs.declared.Scan.the-variants.{Good, Bad}
+use Rattle.syntax.specs.Reader.{parse}
+use Rattle.syntax.specs.Scan.{scan}
+use Rattle.syntax.specs.Value.{ruleOf, emptyRule, held, count}
+use Rattle.reader.specs.Draft as reader
+use Rattle.rule.specs.declared.RuleRead.{RuleRead}
+use Rattle.rule.specs.declared.Found.{Found}
+use Rattle.rule.specs.declared.Found.the-variants.{At, Nowhere}
+use Rattle.rule.specs.Reading.{refusedAs, accepted, unknownAt, ofFound, ofScan, ofTable, ruleRead}
+use Rattle.rule.specs.Valid.{RuleValue}
+use Rattle.rule.specs.Paper.{Beside}
+use Rattle.rule.proofs.Promises as rules
+use Rattle.log.specs.declared.Event.{Event}
+use Rattle.log.specs.Log.{lines, twenty, nothing, logForm, line-fixed, offset-lines}
+use Rattle.log.specs.declared.LogRead.{LogRead}
+use Rattle.log.specs.Promises as logs
+use Rattle.log.specs.Promises.{logSlots, logText, AllWritable, slots-are, all-ok, text-read}
+use Rattle.checks.proofs.Input.{Input, given, formula-is}
+use Rattle.report.specs.Text.{lf}
+use Rattle.transcript.specs.Said as said
+use Rattle.transcript.specs.Said.{File, bytes, missing, outputOf}
+use Rattle.promises.specs.FrontDoor.{SaysTable, SaysRule, SaysLog, Shows, OfLog, lamps, no-log, log-refused, OfRule, rule-said, no-rule, rule-refused, Output, table-said, no-plant, table-refused, bit-beyond, FrontDoor, EveryOutput}
+use Rattle.promises.specs.Lamps.{Taken, played}
+use Rattle.promises.specs.RuleEnd.{stripped, end-said, end-dropped, end-or}
+
+-- ---- the readers
+
+-- a log that was written is accepted
+log-taken : (es : List Event) → AllWritable es → Taken (logText es) es
+unfolding logForm
+log-taken es ok = record { accepts = ap (λ (r : LogRead). r .outcome) (text-read es ok .0); events = text-read es ok .1; many = long }
+  where
+    long : length (logText es) / 20 ≡ length es
+    long = let n = length-map (logSlots es) written in
+        omega (arith, ap length (slots-are es), below-length lines twenty line-fixed (length es) (λ k. getD es k nothing) (all-ok es .1 ok), offset-lines (length es))
+
+module _ (t : run.Plant) (table : AcceptedTable t) where
+  -- behind the table's check
+  abbrev ruled : File → File → List ℕ
+  ruled rule log = said.ruleText (countsIn t) (t .fair) (t .label) (t .next) rule log
+
+  -- the table that was written is lent, part by part
+  table-read : {plant : File} → SaysTable plant t → (rule log : File) → outputOf plant rule log ≡ ruled rule log
+  unfolding outputOf
+  table-read says rule log =
+      rw (
+        says,
+        accepted-read t table,
+        take-padded 4 (length (t .fair)) (t .fair) refl (table .few-fair),
+        take-padded 64 (t .states) (t .label) (table .labels) (table .few-states),
+        take-padded 64 (t .states) (t .next) (table .nexts) (table .few-states),
+      )
+      refl
+
+  abbrev beside : Beside (countsIn t) (t .fair) (t .label) (t .next)
+  beside = record { fairs = refl; table = table }
+
+  module _ {rule : File} {f : Formula} (says : SaysRule rule (t .props) f) where
+    -- the rule that was written is read
+    rule-read : said.ruleGiven (countsIn t) (t .fair) (t .label) (t .next) rule ≡ accepted (ruleOf f)
+    rule-read = ⊎-elim (λ e. ap given-to e ∙ ap reads-as (end-said (says .said)) ∙ reads) (λ e. ap given-to e ∙ ap reads-as (end-dropped (says .text)) ∙ reads) (says .is)
+      where
+        given-to : File → RuleRead
+        given-to x = said.ruleGiven (countsIn t) (t .fair) (t .label) (t .next) x
+
+        reads-as : List ℕ → RuleRead
+        reads-as s = ruleRead (countsIn t) (t .fair) (t .label) (t .next) s
+
+        reads : reads-as (says .text) ≡ accepted (ruleOf f)
+        reads = rules.accepted-exactly (countsIn t) (t .fair) (t .label) (t .next) (says .text) (ruleOf f) .1 (record {
+          formula = f;
+          reads = record { beside = beside; short = says .short; says = says .said };
+          below = says .below;
+          small = says .small;
+          few = says .few;
+          is = refl;
+        })
+
+    abbrev value : RuleValue (ruleOf f) (t .props)
+    value = record { formula = f; is = refl; small = says .small; few = says .few; below = says .below }
+
+    -- and with the table it passes the checks
+    passes : Input (countsIn t) (t .fair) (t .label) (t .next) (ruleOf f)
+    passes = given (countsIn t) (t .fair) (t .label) (t .next) (ruleOf f) (accepted-exactly (countsIn t) (t .fair) (t .label) (t .next) .1 (refl, table)) value
+
+    -- behind the rule's check
+    behind-rule : (log : File) → ruled rule log ≡ said.logText (countsIn t) (t .fair) (t .label) (t .next) (ruleOf f) log
+    unfolding said.ruleText
+    behind-rule log = rw rule-read refl
+
+    -- and behind the log's
+    behind-log : (log : List ℕ) {es : List Event} → Taken log es → Shows t f es (said.logText (countsIn t) (t .fair) (t .label) (t .next) (ruleOf f) (bytes log))
+    behind-log log {es} taken = rw (taken .accepts)
+        (subst (λ (g : Formula). Shows t g es (said.playedText (countsIn t) (t .fair) (t .label) (t .next) (ruleOf f) log)) (formula-is value)
+        (played (countsIn t) (t .fair) (t .label) (t .next) (ruleOf f) passes taken))
+
+-- ---- THE CLAIMS
+
+pub front-door : FrontDoor
+front-door plant rule log t f es table-says table rule-says (log-is, writable) =
+    rw (log-is, table-read t table table-says rule (bytes (logText es)), behind-rule t table rule-says (bytes (logText es))) (behind-log t table rule-says (logText es) (log-taken es writable))
+
+-- what a rule's text is answered: a refusal, or a rule
+data Answer : RuleRead → Type 0 where
+  refuses : (kind : Kind) (i : ℕ) → Answer (refusedAs kind i)
+  gives : (r : Rule) → Answer (accepted r)
+
+either : (b : Bool) (x y : RuleRead) → Answer x → Answer y → Answer (cond b x y)
+either true x y a c = a
+either false x y a c = c
+
+by-table : (o : Outcome) (x : RuleRead) → Answer x → Answer (ofTable x o)
+by-table Accepted x a = a
+by-table (Refused r) x a = refuses (r .kind) (r .place)
+
+by-scan : (c : Scan) (x : RuleRead) → Answer x → Answer (ofScan x c)
+by-scan Good x a = a
+by-scan (Bad i) x a = refuses RuleText i
+
+by-name : (n : Found) (x : RuleRead) → Answer x → Answer (ofFound x n)
+by-name (At i) x a = refuses Proposition i
+by-name Nowhere x a = a
+
+answer : (p : Plant) (fair label next s : List ℕ) → Answer (ruleRead p fair label next s)
+answer p fair label next s = by-table (tableOutcome p fair label next) _ (either (ltb 512 (length s)) _ _ (refuses RuleLength 512) (by-scan (scan s) _ (by-name (unknownAt (p .props) 0 s) _
+    (either (ltb 32 (r .len)) _ _ (refuses Nodes 0) (either (ltb 6 (count (held r))) _ _ (refuses Parts 0) (gives r))))))
+  where
+    r : Rule
+    r = reader.written emptyRule (parse s)
+
+-- a text that is, its digits made small, the written one is the written one: small digits alone are read
+as-written : (s : List ℕ) (ts : List Slot) → smallOf ts s ≡ textOf ts → bytes s ≡ bytes (textOf ts)
+as-written s ts e = ap bytes (sym (only-small s ts (fills-small s ts .1 e)) ∙ e)
+
+module _ (plant : File) (t : run.Plant) (says : SaysTable plant t) (table : AcceptedTable t) where
+  module _ (rule : File) (f : Formula) (rule-says : SaysRule rule (t .props) f) where
+    behind-both : (log : File) → outputOf plant rule log ≡ said.logText (countsIn t) (t .fair) (t .label) (t .next) (ruleOf f) log
+    behind-both log = table-read t table says rule log ∙ behind-rule t table rule-says log
+
+    of-log : (log : File) → OfLog t f log (outputOf plant rule log)
+    of-log missing = no-log refl (behind-both missing)
+    of-log (bytes text) = by (logs.reading text)
+      where
+        by : logs.Reading text → OfLog t f (bytes text) (outputOf plant rule (bytes text))
+        by (logs.accepted es ok small r at) =
+            let log-says : SaysLog (bytes text) es = (as-written text (logSlots es) small, ok) in
+            lamps es log-says (front-door plant rule (bytes text) t f es says table rule-says log-says)
+        by (logs.misformed i p r) = log-refused text i refl p (behind-both (bytes text) ∙ rw (ap (λ (x : LogRead). x .outcome) r) refl)
+
+  of-rule : (rule log : File) → OfRule t rule log (outputOf plant rule log)
+  unfolding said.ruleText
+  of-rule missing log = no-rule refl (table-read t table says missing log)
+  of-rule (bytes text) log = by (ruleRead (countsIn t) (t .fair) (t .label) (t .next) (stripped text)) refl (answer (countsIn t) (t .fair) (t .label) (t .next) (stripped text))
+    where
+      by : (x : RuleRead) → ruleRead (countsIn t) (t .fair) (t .label) (t .next) (stripped text) ≡ x → Answer x → OfRule t (bytes text) log (outputOf plant (bytes text) log)
+      by x e (refuses kind i) =
+          rule-refused text kind i refl (rules.refused-exactly (countsIn t) (t .fair) (t .label) (t .next) (stripped text) kind i .0 e)
+          (table-read t table says (bytes text) log ∙ rw e refl)
+      by x e (gives r) =
+          let takes = rules.accepted-exactly (countsIn t) (t .fair) (t .label) (t .next) (stripped text) r .0 e in
+          let rule-says : SaysRule (bytes text) (t .props) (takes .formula) = record {
+            text = stripped text;
+            is = ⊎-elim (λ (e : text ≡ stripped text). inl (ap bytes e)) (λ (e : text ≡ stripped text ++ lf). inr (ap bytes e)) (end-or text);
+            said = takes .reads .says;
+            short = takes .reads .short;
+            below = takes .below;
+            small = takes .small;
+            few = takes .few;
+          } in
+          rule-said (takes .formula) rule-says (of-log (bytes text) (takes .formula) rule-says log)
+
+pub every-output : EveryOutput
+unfolding outputOf
+every-output missing rule log = no-plant refl refl
+every-output (bytes text) rule log = by (plants.reading text)
+  where
+    by : plants.Reading text → Output (bytes text) rule log (outputOf (bytes text) rule log)
+    by (plants.accepted t table small r) = let says = as-written text (tableSlots t) small in table-said t says table (of-rule (bytes text) t says table rule log)
+    by (plants.beyond t formed b small r) = bit-beyond t (as-written text (tableSlots t) small) formed b (rw r refl)
+    by (plants.misformed i p r) = table-refused text i refl p (rw r refl)

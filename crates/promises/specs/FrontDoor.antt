@@ -1,0 +1,117 @@
+-- THE FRONT DOOR: what the program writes, from the bytes of plant.txt, rule.txt and log.txt to the lamps. Two claims stand at the end. FromTexts proves them, as `front-door` and
+-- `every-output`; this page has no proof, so what it takes from other files is what must be believed.
+-- Read beside it: meaning/specs (rules, runs, events, verdicts); the forms of the texts, `tableText` (plant/specs/Written), `SaidBy` (syntax/specs/Grammar) and `logText` (log/specs/Promises);
+-- and the lines, `startText`, `lampText` and `refusedText` (report/specs/Text). `outputOf` is by its contract what `write_output` (transcript/src) puts into the buffer that the program writes out.
+use Prim.Native.Nat.{ℕ, suc, _*_, _≤_, _<_}
+use mathlib.Core.Path.{_≡_}
+use mathlib.Core.Logic.{_⊎_}
+use mathlib.Core.List.{List, [], _++_, map}
+use lib.ListN.{length, getD, take}
+use Rattle.meaning.specs.Formula.{Formula, size, parts}
+use Rattle.meaning.specs.Run.{Plant}
+use Rattle.meaning.specs.Event.{since}
+use Rattle.meaning.specs.Limits.{AcceptedTable, Legal}
+use Rattle.text.specs.Place.{RefusedAt}
+use Rattle.answers.specs.declared.Kind.{Kind}
+use Rattle.answers.specs.declared.Kind.the-variants.{Bits, TableText, LogText, Event as EventKind, File as FileKind}
+use Rattle.answers.specs.declared.Lamp.{Lamp}
+use Rattle.answers.specs.declared.Answer.the-variants.{Shown}
+use Rattle.answers.specs.Paper.{refusedAt}
+use Rattle.plant.specs.Table.{BitBeyond}
+use Rattle.plant.specs.Text.{tableForm}
+use Rattle.plant.specs.Read.{countsIn}
+use Rattle.plant.specs.Written.{WellFormed, tableText}
+use Rattle.syntax.specs.Grammar.{SaidBy}
+use Rattle.syntax.specs.Print.{Below}
+use Rattle.rule.specs.Paper.{Because}
+use Rattle.log.specs.declared.Event.{Event}
+use Rattle.log.specs.Legal.{seenOf}
+use Rattle.log.specs.Log.{nothing, logForm}
+use Rattle.log.specs.Promises.{AllWritable, logText}
+use Rattle.advance.specs.Held.{eventOf}
+use Rattle.report.specs.Text.{startText, refusedText, lf}
+use Rattle.transcript.specs.End.{endOf}
+use Rattle.transcript.specs.Lines.{dark, linesText}
+use Rattle.transcript.specs.Said.{File, bytes, missing, outputOf}
+use Rattle.promises.specs.Demand.{Lit}
+
+-- ---- what the three files say
+
+-- plant.txt says the table t
+abbrev pub SaysTable : File → Plant → Type 0
+SaysTable plant t = plant ≡ bytes (tableText t)
+
+-- rule.txt says the rule f, within the limits and of propositions below q; one LF may stand behind it
+pub record SaysRule (rule : File) (q : ℕ) (f : Formula) : Type 0 where
+  pub text : List ℕ
+  pub is : (rule ≡ bytes text) ⊎ (rule ≡ bytes (text ++ lf))
+  pub said : SaidBy f text
+  pub short : length text ≤ 512
+  pub below : Below q f
+  pub small : size f ≤ 32
+  pub few : parts f ≤ 6
+
+-- log.txt says the events es
+abbrev pub SaysLog : File → List Event → Type 0
+SaysLog log es = (log ≡ bytes (logText es)) × AllWritable es
+
+-- ---- what is shown of them
+
+-- event n is legal
+abbrev pub LegalAt : Plant → List Event → ℕ → Type 0
+LegalAt t es n = Legal t (seenOf (getD es n nothing))
+
+-- the lamp is right behind these events: its verdict is what the runs of t dictate for f, and `left` counts the states in which an agreeing run can now be
+abbrev pub RightAfter : Plant → Formula → List Event → Lamp → Type 0
+RightAfter t f es lamp = Lit t f (since (map eventOf es)) (Shown lamp)
+
+-- `refused=N place=P`
+abbrev pub refused : Kind → ℕ → List ℕ
+refused kind place = refusedText (refusedAt kind place)
+
+-- where the lamps end, and with what: all events are legal, and there is nothing more; or event k is the first that is not, and is refused by 10 at the offset of its line
+pub data Ends (t : Plant) (es : List Event) : ℕ → List ℕ → Type 0 where
+  at-end : ((n : ℕ) → n < length es → LegalAt t es n) → Ends t es (length es) []
+  at-event : (k : ℕ) → k < length es → ((n : ℕ) → n < k → LegalAt t es n) → (LegalAt t es k → ⊥) → Ends t es k (refused EventKind (k * 20))
+
+-- the output: the start, a line for each lamp, the end. The start is right for no events, and line n for the events 0 to n
+pub record Shows (t : Plant) (f : Formula) (es : List Event) (output : List ℕ) : Type 0 where
+  pub start : Lamp
+  pub lamps : List Lamp
+  pub end : List ℕ
+  pub is : output ≡ startText start ++ (linesText lamps ++ end)
+  pub start-right : RightAfter t f [] start
+  pub line-right : (n : ℕ) → n < length lamps → RightAfter t f (take (suc n) es) (getD lamps n dark)
+  pub ends : Ends t es (length lamps) end
+
+-- ---- what any files give: the checks, in their order; a refusal is the whole output
+
+-- log.txt, behind a table and a rule: the lamps, or no file (14), or no log (12)
+pub data OfLog (t : Plant) (f : Formula) (log : File) (output : List ℕ) : Type 0 where
+  lamps : (es : List Event) → SaysLog log es → Shows t f es output → OfLog t f log output
+  no-log : log ≡ missing → output ≡ refused FileKind 0 → OfLog t f log output
+  log-refused : (text : List ℕ) (i : ℕ) → log ≡ bytes text → RefusedAt logForm text i → output ≡ refused LogText i → OfLog t f log output
+
+-- rule.txt, behind a table: a rule, or no file (14), or one of the reasons for 4 to 8, of the text with one final LF dropped
+pub data OfRule (t : Plant) (rule log : File) (output : List ℕ) : Type 0 where
+  rule-said : (f : Formula) → SaysRule rule (t .props) f → OfLog t f log output → OfRule t rule log output
+  no-rule : rule ≡ missing → output ≡ refused FileKind 0 → OfRule t rule log output
+  rule-refused : (text : List ℕ) (kind : Kind) (i : ℕ) → rule ≡ bytes text → Because (countsIn t) (t .fair) (t .label) (t .next) (take (endOf text) text) kind i
+      → output ≡ refused kind i → OfRule t rule log output
+
+-- plant.txt: a table that is accepted, or no file (14), or no table (3), or a bit beyond the counts (2)
+pub data Output (plant rule log : File) (output : List ℕ) : Type 0 where
+  table-said : (t : Plant) → SaysTable plant t → AcceptedTable t → OfRule t rule log output → Output plant rule log output
+  no-plant : plant ≡ missing → output ≡ refused FileKind 0 → Output plant rule log output
+  table-refused : (text : List ℕ) (i : ℕ) → plant ≡ bytes text → RefusedAt tableForm text i → output ≡ refused TableText i → Output plant rule log output
+  bit-beyond : (t : Plant) → SaysTable plant t → WellFormed t → BitBeyond (countsIn t) (t .fair) (t .label) (t .next) → output ≡ refused Bits 0 → Output plant rule log output
+
+-- ---- the claims
+
+-- files that say an accepted table, a rule and events: the lamps are right, line by line
+abbrev pub FrontDoor : Type 0
+FrontDoor = (plant rule log : File) (t : Plant) (f : Formula) (es : List Event) → SaysTable plant t → AcceptedTable t → SaysRule rule (t .props) f → SaysLog log es → Shows t f es (outputOf plant rule log)
+
+-- any files at all: the output is one of these
+abbrev pub EveryOutput : Type 0
+EveryOutput = (plant rule log : File) → Output plant rule log (outputOf plant rule log)
