@@ -6,3 +6,4 @@ pub mod FrontDoor
 mod Lamps
 mod RuleEnd
 pub mod FromTexts
+pub mod OneOutput

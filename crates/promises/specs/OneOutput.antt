@@ -1,0 +1,120 @@
+-- The front door leaves no choice: three files say one table, one rule and one list of events, and two outputs that show what these dictate are the same bytes.
+use Prim.Native.Nat.{ℕ, _*_, _≤_, _<_}
+use native.Mathlib.Omega.{arith}
+use mathlib.Core.Path.{_≡_, refl, sym, ap, ap₂, subst, _∙_}
+use mathlib.Core.List.{List, _++_}
+use mathlib.Core.Logic.{⊎-elim}
+use lib.ListN.{length, getD}
+use lib.Seq.{ext-getD}
+use Rattle.words.specs.Folds.{count-same}
+use Rattle.words.specs.Truth.{says-same}
+use Rattle.text.specs.Cases.{below-or-beyond}
+use Rattle.meaning.specs.Formula.{Formula}
+use Rattle.meaning.specs.Run.{Plant}
+use Rattle.meaning.specs.Event.{History}
+use Rattle.meaning.specs.Limits.{AcceptedTable}
+use Rattle.meaning.specs.Verdict.{Right}
+use Rattle.answers.specs.declared.Verdict.{Verdict}
+use Rattle.answers.specs.declared.Verdict.the-variants.{Inconclusive, True, False, OutOfModel}
+use Rattle.answers.specs.declared.Kind.the-variants.{Event as EventKind}
+use Rattle.answers.specs.declared.Lamp.{Lamp}
+use Rattle.answers.specs.declared.Answer.{Answer}
+use Rattle.answers.specs.declared.Answer.the-variants.{Shown}
+use Rattle.answers.specs.declared.Answer.the-variants as Answers
+use Rattle.answers.specs.Paper.{Paper, verdict, refused, accepted, numberOf}
+use Rattle.answers.proofs.One.{one-answer}
+use Rattle.plant.specs.Promises as plants
+use Rattle.plant.specs.Promises.{accepted-formed}
+use Rattle.syntax.specs.Grammar.{SaidBy}
+use Rattle.rule.proofs.Promises.{one-tree}
+use Rattle.log.specs.declared.Event.{Event}
+use Rattle.log.specs.Promises as logs
+use Rattle.report.specs.Text.{startText}
+use Rattle.transcript.specs.Lines.{dark, linesText}
+use Rattle.transcript.specs.Said.{File, bytes, bytesOf}
+use Rattle.promises.specs.Demand.{Lit}
+use Rattle.promises.specs.RuleEnd.{stripped, end-said, end-dropped}
+use Rattle.promises.specs.FrontDoor as door
+use Rattle.promises.specs.FrontDoor.{SaysTable, SaysRule, SaysLog, Ends, at-end, at-event, Shows}
+
+-- ---- what files say
+
+bytes-one : {s r : List ℕ} → bytes s ≡ bytes r → s ≡ r
+bytes-one e = ap bytesOf e
+
+pub table-one : {plant : File} {t u : Plant} → AcceptedTable t → AcceptedTable u → SaysTable plant t → SaysTable plant u → t ≡ u
+table-one {t = t} {u = u} a b says says' = plants.text-one t u (accepted-formed t a) (accepted-formed u b) (bytes-one (sym says ∙ says'))
+
+pub rule-one : {rule : File} {q : ℕ} {f g : Formula} → SaysRule rule q f → SaysRule rule q g → f ≡ g
+rule-one {rule} {q} {f} {g} a b = one-tree (b .text) f g (subst (SaidBy f) (sym (text-is a) ∙ text-is b) (a .said)) (b .said)
+  where
+    text-is : {f : Formula} (says : SaysRule rule q f) → stripped (bytesOf rule) ≡ says .text
+    text-is says = ⊎-elim (λ e. ap (λ (x : File). stripped (bytesOf x)) e ∙ end-said (says .said)) (λ e. ap (λ (x : File). stripped (bytesOf x)) e ∙ end-dropped (says .text)) (says .is)
+
+pub log-one : {log : File} {es fs : List Event} → SaysLog log es → SaysLog log fs → es ≡ fs
+log-one {es = es} {fs = fs} (is, ok) (is', ok') = logs.text-one es fs ok ok' (bytes-one (sym is ∙ is'))
+
+-- ---- what is shown
+
+-- the two numbers of a lamp on paper
+abbrev numberIn : Paper → ℕ
+numberIn (verdict n left) = n
+numberIn (refused n place) = 0
+numberIn (accepted ns) = 0
+
+abbrev leftIn : Paper → ℕ
+leftIn (verdict n left) = left
+leftIn (refused n place) = 0
+leftIn (accepted ns) = 0
+
+abbrev lampIn : Lamp → Answer → Lamp
+lampIn other (Shown l) = l
+lampIn other (Answers.Refused r) = other
+
+module _ (t : Plant) (f : Formula) where
+  -- no two verdicts are right
+  verdict-one : {h : History} (v w : Verdict) → Right t f h (numberOf v) → Right t f h (numberOf w) → numberOf v ≡ numberOf w
+  verdict-one Inconclusive w r s = sym (s .inconclusive .1 (r .inconclusive .0 refl))
+  verdict-one True w r s = sym (s .sure-true .1 (r .sure-true .0 refl))
+  verdict-one False w r s = sym (s .sure-false .1 (r .sure-false .0 refl))
+  verdict-one OutOfModel w r s = sym (s .out-of-model .1 (r .out-of-model .0 refl))
+
+  -- so no two lamps are
+  lamp-one : {h : History} (l m : Lamp) → Lit t f h (Shown l) → Lit t f h (Shown m) → l ≡ m
+  lamp-one {h} l m a b = ap (lampIn l) (one-answer (Shown l) (Shown m) (ap₂ verdict numbers lefts))
+    where
+      right : (l : Lamp) (x : Lit t f h (Shown l)) → Right t f h (numberOf (l .verdict))
+      right l x = subst (Right t f h) (sym (ap numberIn (x .shown))) (x .right)
+
+      numbers : numberOf (l .verdict) ≡ numberOf (m .verdict)
+      numbers = verdict-one (l .verdict) (m .verdict) (right l a) (right m b)
+
+      lefts : l .left ≡ m .left
+      lefts =
+          ap leftIn (a .shown) ∙ a .counts .2
+          ∙ count-same (t .states) (a .counts .0) (b .counts .0) (λ s low. says-same (a .counts .1 s) (b .counts .1 s))
+          ∙ sym (ap leftIn (b .shown) ∙ b .counts .2)
+
+  -- nor two ends
+  end-one : {es : List Event} {k m : ℕ} {x y : List ℕ} → Ends t es k x → Ends t es m y → (k ≡ m) × (x ≡ y)
+  end-one (at-end a) (at-end b) = (refl, refl)
+  end-one (at-end a) (at-event m low b bad) = absurd (bad (a m low))
+  end-one (at-event k low a bad) (at-end b) = absurd (bad (b k low))
+  end-one (at-event k low a bad) (at-event m low' b bad') = (same, ap (λ (n : ℕ). door.refused EventKind (n * 20)) same)
+    where
+      same : k ≡ m
+      same =
+          ⊎-elim (λ (l : k < m). absurd (bad (b k l)))
+          (λ (l : m ≤ k). ⊎-elim (λ (g : m < k). absurd (bad' (a m g))) (λ (g : k ≤ m). omega arith) (below-or-beyond m k))
+          (below-or-beyond k m)
+
+  pub one-output : {es : List Event} {x y : List ℕ} → Shows t f es x → Shows t f es y → x ≡ y
+  one-output {es} a b =
+      a .is ∙ ap₂ (λ (l : Lamp) (s : List ℕ). startText l ++ s) (lamp-one (a .start) (b .start) (a .start-right) (b .start-right))
+      (ap₂ (λ (ls : List Lamp) (s : List ℕ). linesText ls ++ s) lamps (ends .1)) ∙ sym (b .is)
+    where
+      ends : (length (a .lamps) ≡ length (b .lamps)) × (a .end ≡ b .end)
+      ends = end-one (a .ends) (b .ends)
+
+      lamps : a .lamps ≡ b .lamps
+      lamps = ext-getD dark (a .lamps) (b .lamps) (ends .0) (λ n low. lamp-one (getD (a .lamps) n dark) (getD (b .lamps) n dark) (a .line-right n low) (b .line-right n (rw (← (ends .0)) low)))
