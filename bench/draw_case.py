@@ -10,9 +10,10 @@ seen=0           how many propositions an event shows, on average; with 0 nothin
                  pairs as can be are held
 operators=XFGUR  the temporal operators that are drawn
 labels=drawn     or `rare`: each proposition at one drawn state alone
+lines=100        how many lines the log has
 rule=drawn       or `again`, G of Fp0 and .. and Fp4; `nested`, F(p0&F(p1&..Fp5)); `untils`, (..((p0Up1)Up2)..Up6); `ahead`, XXXXXXp0
 
-The folder gets plant.txt, rule.txt and log.txt (100 lines along a run of the plant), and twin.txt, the same for the C twin: numbers alone,
+The folder gets plant.txt, rule.txt and log.txt (lines along a run of the plant), and twin.txt, the same for the C twin: numbers alone,
 the rule as its nodes, operands first.
 """
 import os
@@ -20,7 +21,7 @@ import random
 import sys
 
 folder, seed = sys.argv[1], int(sys.argv[2])
-given = {'moves': '2', 'fair': '16', 'seen': '0', 'operators': 'XFGUR', 'labels': 'drawn', 'rule': 'drawn'}
+given = {'moves': '2', 'fair': '16', 'seen': '0', 'operators': 'XFGUR', 'labels': 'drawn', 'lines': '100', 'rule': 'drawn'}
 for word in sys.argv[3:]:
     key, value = word.split('=')
     if key not in given:
@@ -28,7 +29,7 @@ for word in sys.argv[3:]:
     given[key] = value
 operators, seen = given['operators'], int(given['seen'])
 draw = random.Random(seed)
-STATES, PROPS, FAIR, PARTS, NODES, LINES = 64, 8, 4, 6, 32, 100
+STATES, PROPS, FAIR, PARTS, NODES, LINES = 64, 8, 4, 6, 32, int(given['lines'])
 CODES = {'X': 4, 'F': 5, 'G': 6, 'U': 7, 'R': 8, '&': 9, '|': 10, '->': 11}
 PROP, NOT = 2, 3
 
