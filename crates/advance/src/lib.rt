@@ -57,7 +57,7 @@ pub fn advance<'a>(
     kept(monitor, live, agree)
 }
 
-// What the lamp shows.
+// What the lamp shows. Both sets' states are united to one word, and its ones are counted at once.
 pub fn lamp(monitor: Monitor) -> Lamp
     ensures { λ r. ⌜ r ≡ lampIn (modelOf monitor) ⌝ }
 {
@@ -67,6 +67,6 @@ pub fn lamp(monitor: Monitor) -> Lamp
     let broken = breaks.states();
     Lamp {
         verdict: Verdict::of(kept != 0, broken != 0),
-        left: pairs::count_states(keeps, breaks),
+        left: words::count(kept | broken),
     }
 }

@@ -1,19 +1,17 @@
 -- For code: other ways to the same words.
 use Prim.Native.Nat.{ℕ, _^_, _<_}
-use mathlib.Core.Path.{_≡_, sym, _∙_}
+use mathlib.Core.Path.{_≡_, _∙_}
 use mathlib.Core.Bool.{Bool, true, false, So, _&&_}
 use mathlib.Core.List.{List}
-use lib.Bits.{bitAnd, bitOr}
+use lib.Bits.{bitAnd}
 use lib.Dec.{ltb}
-use lib.Count.{ones}
 use lib.ListN.{length, getD}
 use borrow.Author.Tests.{ltb-true}
 use Rattle.meaning.specs.Bit.{bit}
 use Rattle.words.specs.Below.{allBelow}
 use Rattle.words.specs.Lists.{entry-inside}
 use Rattle.words.specs.Folds.{any-found}
-use Rattle.words.specs.Unions.{union-same, bit-wordOf, ones-count}
-use Rattle.pairs.specs.Sets.{statesOf, left-ones}
+use Rattle.words.specs.Unions.{union-same, bit-wordOf}
 use Rattle.pairs.specs.Post.{postOf, bit-post}
 use Rattle.moves.specs.Image.{reachedAt, imageOf}
 use Rattle.moves.specs.Back.{meets, preOf}
@@ -27,7 +25,7 @@ use Rattle.theory.specs.Parts.{partOf, every-parts}
 use Rattle.model.specs.Sets.{PairSet}
 use Rattle.words.specs.Within.{members-below, and-same}
 use Rattle.model.specs.Moves.{leaving, entering, from, to, bit-from, bit-to}
-use Rattle.model.specs.Monitor.{Monitor, side, sourceAt, keptOf, left}
+use Rattle.model.specs.Monitor.{Monitor, side, sourceAt, keptOf}
 use Rattle.words.specs.Truth.{and-says}
 
 -- after the first event, and with no restart, a step is the image of what was held
@@ -35,11 +33,6 @@ pub moved-image : (T : Plant) (f : Formula) (live : List ℕ) (m : Monitor) (e :
     → keptOf T f live m e b ≡ imageOf (T .next) (side m b) (from T f) (to T f) (2 ^ parts f) live (agreeingOf (T .label) (e .seen .see) (e .seen .val))
 unfolding keptOf sourceAt imageOf
 moved-image T f live m e b seen old = rw (seen, old)
-
--- left by the ones-count of the united words
-pub left-once : (m : Monitor) → bitOr (statesOf (m .keeps)) (statesOf (m .breaks)) < 2 ^ 64 → left m ≡ ones (bitOr (statesOf (m .keeps)) (statesOf (m .breaks)))
-unfolding left
-left-once m fits = sym (ones-count 64 (bitOr (statesOf (m .keeps)) (statesOf (m .breaks))) fits ∙ left-ones (m .keeps) (m .breaks))
 
 -- only the states of the table matter in `from` and `to`
 module _ (T : Plant) (f : Formula) (A : AcceptedTable T) (Z : List ℕ) (z : PairSet T f Z) (src dst : ℕ → ℕ → ℕ)

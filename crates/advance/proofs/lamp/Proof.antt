@@ -1,12 +1,13 @@
--- `lamp`: whether the sets are occupied, and how many states they have. Assumes nothing.
+-- `lamp`: whether the sets are occupied, and the ones-count of their united states. Assumes nothing.
 use borrow.Author.Needs.{needs}
+use Rattle.pairs.specs.Sets.{left-ones}
 use Rattle.model.specs.Monitor as model
 use Rattle.advance.proofs.lamp.Statement.{statement}
 use Rattle.advance.proofs.lamp.Tie as tie
 
 returns : tie.Need-returns
 unfolding model.left
-returns c = rw (c .before .of .ensures, c .count-states .ensures, c .before .before .states2 .ensures, c .before .before .before .states .ensures)
+returns c = rw (c .before .of .ensures, c .count .ensures, c .before .before .states2 .ensures, c .before .before .before .states .ensures, left-ones)
 
 pub lamp-spec : {M : Type 1} → statement M
 lamp-spec =
