@@ -8,7 +8,7 @@
 #include <string.h>
 // How `left` is counted, as the proved code does it: 0, each state is looked for until a word has it; 1, by the ones of a word.
 #ifndef ONES
-#define ONES 0
+#define ONES 1
 #endif
 typedef uint64_t u64;
 typedef struct { size_t props, states; u64 start; size_t just; } Plant;
