@@ -50,7 +50,7 @@ courseTo step m event (suc n) = goOn step (courseTo step m event n) (event n) (c
 
 -- THE COURSE OF A LOG: the public step, line after line
 abbrev pub courseOf : Plant → List ℕ → List ℕ → List ℕ → Rule → Pairs → Monitor → List ℕ → Course
-courseOf p fair label next rule live m text = courseTo (stepOf p fair label next rule live) m (eventAt text) (length text / 20)
+courseOf p fair label next rule live m text = courseTo (stepOf p fair label next rule live) m (eventAt 2 text) (length text / 20)
 
 -- the bytes of the verdicts' numbers, and of `left`
 abbrev pub verdictBytes : List Lamp → List ℕ
@@ -82,4 +82,4 @@ abbrev pub turn : Plant → List ℕ → List ℕ → Ways → Pairs → Monitor
 turn p label next w live m e = turnOf (legalOf e (p .props)) m (advancedIn (p .start) label next w (live .words) m e)
 
 abbrev pub courseIn : Plant → List ℕ → List ℕ → Ways → Pairs → Monitor → List ℕ → Course
-courseIn p label next w live m text = courseTo (turn p label next w live) m (eventAt text) (length text / 20)
+courseIn p label next w live m text = courseTo (turn p label next w live) m (eventAt 2 text) (length text / 20)

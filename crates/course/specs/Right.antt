@@ -106,7 +106,7 @@ module _ (p : Plant) (fair label next : List ℕ) (rule : Rule) (full : length (
   pub followed : {w : Ways} → w ≡ waysOf label rule → (text : List ℕ) {verdicts₀ lefts₀ verdicts lefts : List ℕ} {r : Went}
       → Followed (courseIn p label next w live m text) verdicts₀ lefts₀ verdicts lefts r → Followed (courseOf p fair label next rule live m text) verdicts₀ lefts₀ verdicts lefts r
   followed e text {verdicts₀} {lefts₀} {verdicts} {lefts} {r} h =
-      subst (λ (c : Course). Followed c verdicts₀ lefts₀ verdicts lefts r) (as-called p fair label next rule given-by live (g .lives) m (g .held) (eventAt text) (length text / 20)) (rw e at h)
+      subst (λ (c : Course). Followed c verdicts₀ lefts₀ verdicts lefts r) (as-called p fair label next rule given-by live (g .lives) m (g .held) (eventAt 2 text) (length text / 20)) (rw e at h)
 
 -- ---- for callers
 

@@ -37,7 +37,7 @@ byte-more F ls old shown many e =
 
 module _ (p : Plant) (label next : List ℕ) (w : Ways) (live : Pairs) (m : Monitor) (text verdicts₀ lefts₀ : List ℕ) where
   abbrev at : ℕ → Course
-  at n = courseTo (turn p label next w live) m (eventAt text) n
+  at n = courseTo (turn p label next w live) m (eventAt 2 text) n
 
   -- behind n lines, all of which were taken
   pub record Gone (n : ℕ) (now : Monitor) (verdicts lefts : List ℕ) : Type 0 where
@@ -51,7 +51,7 @@ module _ (p : Plant) (label next : List ℕ) (w : Ways) (live : Pairs) (m : Moni
   unfolding courseTo laid
   starts = record { lamps = []; is = refl; many = refl; verdicts-are = refl; lefts-are = refl }
 
-  module _ {n : ℕ} {now : Monitor} {verdicts lefts : List ℕ} (g : Gone n now verdicts lefts) {e : Event} (line : e ≡ eventAt text n) where
+  module _ {n : ℕ} {now : Monitor} {verdicts lefts : List ℕ} (g : Gone n now verdicts lefts) {e : Event} (line : e ≡ eventAt 2 text n) where
     -- the next line, by whether its event is legal
     on : (b : Bool) → legalOf e (p .props) ≡ b
         → at (suc n) ≡ takes (standing now (g .lamps)) (turnOf b now (advancedIn (p .start) label next w (live .words) now e)) (turnOf b now (advancedIn (p .start) label next w (live .words) now e) .answer)
@@ -77,7 +77,7 @@ module _ (p : Plant) (label next : List ℕ) (w : Ways) (live : Pairs) (m : Moni
         → Followed (at last) verdicts₀ lefts₀ verdicts lefts (record { outcome = Refused r; done = n; monitor = now })
     stops last legal before refused =
         let stopped = on false legal in
-        let same : at last ≡ at (suc n) = rw (rest) (stays (turn p label next w live) m (eventAt text) (suc n) (last - suc n) (ap (λ (c : Course). c .went .outcome) stopped)) in
+        let same : at last ≡ at (suc n) = rw (rest) (stays (turn p label next w live) m (eventAt 2 text) (suc n) (last - suc n) (ap (λ (c : Course). c .went .outcome) stopped)) in
         rw (same ∙ stopped) (record { went = rw (refused, g .many) refl; verdicts-are = g .verdicts-are; lefts-are = g .lefts-are })
       where
         rest : last ≡ last - suc n + suc n

@@ -2,20 +2,23 @@
 use Prim.Native.Nat.{ℕ, _+_, _^_, _≤_, _<_, zero-le}
 use mathlib.Core.Path.{_≡_, refl, sym, ap, _∙_}
 use mathlib.Core.Bool.{Bool, true, false}
-use mathlib.Core.List.{List, [], _∷_}
+use mathlib.Core.List.{List, [], _∷_, _++_}
 use native.Mathlib.Omega.{arith}
+use borrow.Author.Tests.{lt-ltb}
 use lib.Dec.{eqb}
-use lib.ListN.{length}
+use lib.ListN.{length, length-append}
 use Rattle.words.specs.Word.{digit}
 use Rattle.words.specs.Laws.{digit-of}
 use Rattle.text.specs.Slot.{word, matched, digitValue}
-use Rattle.text.specs.Promises.{fitOf}
+use Rattle.text.specs.Number.{hexSlots, countSlots, lastOf}
 use Rattle.text.specs.Form.{Form, Reads, led, both, seen, reads-led, reads-both, reads-seen}
-use Rattle.text.specs.Hex.{hex, hex-reads}
+use Rattle.text.specs.Hex.{hex, hex-reads, hex-length}
 use Rattle.text.specs.Count.{counted, count-reads}
 use Rattle.text.specs.After.{after, cursor}
 use Rattle.text.specs.Read.{IsHex, IsCount}
 use Rattle.text.specs.Took.{Took, took-led, took-both, took-seen, took-all, hex-took, count-took}
+use Rattle.text.specs.Lines.{Fixed}
+use Rattle.text.specs.LinesRead.{IsLine}
 use Rattle.text.specs.declared.Cursor.{Cursor}
 use Rattle.log.specs.declared.Event.{Event}
 
@@ -69,41 +72,61 @@ event-back e = by-new (e .new)
     by-new true = refl
     by-new false = refl
 
+-- `new` is written as 0 or 1
+new-low : (b : Bool) → digit b ≤ 1
+new-low true = omega arith
+new-low false = omega arith
+
 pub line-reads : (w : ℕ) → Reads (line w)
 unfolding both led hex counted digitValue
 line-reads w =
     reads-seen
     (reads-both (reads-led (hex-reads w) (word seeKey)) (λ see ok. reads-both (reads-led (hex-reads w) (word valKey)) (λ val ok.
     reads-led (count-reads 0 1 (omega arith) (omega arith) (omega arith) 10 (omega arith)) (word newKey))))
-    (Writable w) eventIn fieldsOf (λ p ok. ((ok .0, ok .1 .0), fields-back p (ok .1 .1 .1))) (λ e ok. ((ok .0, (ok .1, (zero-le, low (e .new)))), event-back e))
-  where
-    low : (b : Bool) → digit b ≤ 1
-    low true = omega arith
-    low false = omega arith
+    (Writable w) eventIn fieldsOf (λ p ok. ((ok .0, ok .1 .0), fields-back p (ok .1 .1 .1))) (λ e ok. ((ok .0, (ok .1, (zero-le, new-low (e .new)))), event-back e))
 
--- the event that a text's first line gives if it is of the form, and how far it is
-pub record IsLine (s : List ℕ) (e : Event) (good : ℕ) : Type 0 where
-  pub is : e ≡ line 2 .guess s
-  pub goes : good ≡ fitOf (line 2) s
+-- how many bytes a line has: 16 beside the digits
+abbrev pub lineBytes : ℕ → ℕ
+lineBytes w = 16 + (w + w)
+
+one-digit : (end n : ℕ) → n < 10 → length (countSlots end n) ≡ 2
+unfolding countSlots lastOf
+one-digit end n h = rw (lt-ltb n 10 h)
+
+pub line-fixed : (w : ℕ) → Fixed (line w) (lineBytes w)
+unfolding seen both led hex counted
+line-fixed w = record { reads = line-reads w; bytes = bytes; some = omega arith }
+  where
+    bytes : (e : Event) → Writable w e → length (line w .slots e) ≡ lineBytes w
+    bytes e ok =
+        let end = word newKey ++ countSlots 10 (digit (e .new)) in
+        omega (
+          arith,
+          length-append (hexSlots w (e .see)) ((word valKey ++ hexSlots w (e .val)) ++ end),
+          length-append (hexSlots w (e .val)) end,
+          hex-length w (e .see),
+          hex-length w (e .val),
+          one-digit 10 (digit (e .new)) (omega (arith, new-low (e .new))),
+        )
 
 pub lined :
-    (s : List ℕ) (c₁ c₂ c₃ c₄ c₅ c₆ : Cursor) (see val new : ℕ) → (c₁ ≡ after s (cursor 0 0) (word seeKey)) × (c₁ .at ≡ 4) → IsHex s c₁ 2 see c₂
-    → (c₃ ≡ after s c₂ (word valKey)) × (c₃ .at ≡ c₂ .at + 5) → IsHex s c₃ 2 val c₄ → (c₅ ≡ after s c₄ (word newKey)) × (c₅ .at ≡ c₄ .at + 5)
-    → IsCount s c₅ 10 0 1 new c₆ → IsLine s (eventIn (see, (val, new))) (c₆ .good)
-lined s c₁ c₂ c₃ c₄ c₅ c₆ see val new a b d e f g =
-    record { is = all .0; goes = ap (λ (c : Cursor). c .good) (all .1) ∙ ap (λ (x : Event). matched s (line 2 .slots x)) (all .0) }
+    (w : ℕ) (s : List ℕ) (c₁ c₂ c₃ c₄ c₅ c₆ : Cursor) (see val new : ℕ) → (c₁ ≡ after s (cursor 0 0) (word seeKey)) × (c₁ .at ≡ 4) → IsHex s c₁ w see c₂
+    → (c₃ ≡ after s c₂ (word valKey)) × (c₃ .at ≡ c₂ .at + 5) → IsHex s c₃ w val c₄ → (c₅ ≡ after s c₄ (word newKey)) × (c₅ .at ≡ c₄ .at + 5)
+    → IsCount s c₅ 10 0 1 new c₆ → IsLine (line w) s (eventIn (see, (val, new))) (c₆ .good)
+lined w s c₁ c₂ c₃ c₄ c₅ c₆ see val new a b d e f g =
+    record { is = all .0; goes = ap (λ (c : Cursor). c .good) (all .1) ∙ ap (λ (x : Event). matched s (line w .slots x)) (all .0) }
   where
-    sees : Took (hexKey seeKey 2) s (cursor 0 0) see c₂
+    sees : Took (hexKey seeKey w) s (cursor 0 0) see c₂
     sees = took-led (word seeKey) (a .0) (hex-took b)
 
-    vals : Took (hexKey valKey 2) s c₂ val c₄
+    vals : Took (hexKey valKey w) s c₂ val c₄
     vals = took-led (word valKey) (d .0) (hex-took e)
 
     news : Took (led (word newKey) (counted 10 0 1)) s c₄ new c₆
     news = took-led (word newKey) (f .0) (count-took g)
 
-    took : Took (fields 2) s (cursor 0 0) (see, (val, new)) c₆
-    took = took-both (λ see. both (hexKey valKey 2) (λ val. led (word newKey) (counted 10 0 1))) sees (took-both (λ val. led (word newKey) (counted 10 0 1)) vals news)
+    took : Took (fields w) s (cursor 0 0) (see, (val, new)) c₆
+    took = took-both (λ see. both (hexKey valKey w) (λ val. led (word newKey) (counted 10 0 1))) sees (took-both (λ val. led (word newKey) (counted 10 0 1)) vals news)
 
-    all : (eventIn (see, (val, new)) ≡ line 2 .guess s) × (c₆ ≡ cursor (length (line 2 .slots (eventIn (see, (val, new))))) (matched s (line 2 .slots (eventIn (see, (val, new))))))
-    all = took-all (took-seen (Writable 2) eventIn fieldsOf (fields-back (see, (val, new)) (g .high)) took)
+    all : (eventIn (see, (val, new)) ≡ line w .guess s) × (c₆ ≡ cursor (length (line w .slots (eventIn (see, (val, new))))) (matched s (line w .slots (eventIn (see, (val, new))))))
+    all = took-all (took-seen (Writable w) eventIn fieldsOf (fields-back (see, (val, new)) (g .high)) took)

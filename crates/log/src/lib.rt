@@ -8,7 +8,8 @@ use text::expect_all;
 use text::hex;
 ghost use mathlib.Core.Path.{_≡_};
 ghost use Rattle.log.specs.Legal.{legalOf};
-ghost use Rattle.log.specs.Line.{IsLine};
+ghost use Rattle.text.specs.LinesRead.{IsLine};
+ghost use Rattle.log.specs.Line.{line};
 ghost use Rattle.log.specs.Read.{logRead, eventAt};
 
 // Which propositions are seen, those of them seen to hold, and whether it is a restart.
@@ -55,7 +56,7 @@ pub fn is_legal(event: Event, props: usize) -> bool
 
 // The line that a text begins with. It never fails: `good` tells how far the text fits.
 fn read_line(text: &[u8]) -> Line
-    ensures { λ r. ⌜ IsLine (now (text .entry)) (r .event) (r .good) ⌝ }
+    ensures { λ r. ⌜ IsLine (line 2) (now (text .entry)) (r .event) (r .good) ⌝ }
 {
     let a = expect_all(text, Cursor::START, b"see=");
     let see = hex(text, a, 2);
@@ -77,7 +78,7 @@ fn read_line(text: &[u8]) -> Line
 
 // Checks the form of a whole log, of any number of lines.
 pub fn read_log(text: &[u8]) -> LogRead
-    ensures { λ r. ⌜ r ≡ logRead (now (text .entry)) ⌝ }
+    ensures { λ r. ⌜ r ≡ logRead 2 (now (text .entry)) ⌝ }
 {
     let mut at = 0;
     let mut lines = 0;
@@ -101,7 +102,7 @@ pub fn read_log(text: &[u8]) -> LogRead
 
 // The event of a line, counted from 0; one that sees nothing beyond the last whole line.
 pub fn event_at(text: &[u8], line: usize) -> Event
-    ensures { λ r. ⌜ r ≡ eventAt (now (text .entry)) line ⌝ }
+    ensures { λ r. ⌜ r ≡ eventAt 2 (now (text .entry)) line ⌝ }
 {
     if line < text.len() / Event::BYTES {
         let at = line * Event::BYTES;

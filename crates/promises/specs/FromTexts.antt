@@ -1,20 +1,20 @@
 -- From texts to lamps: the readers give what the texts say, and the calls show the rest. Here are the two claims of FrontDoor proved.
 use Prim.Native.Nat.{ℕ, _/_}
-use native.Mathlib.Omega.{arith}
 use mathlib.Core.Path.{_≡_, refl, sym, ap, subst, _∙_}
 use mathlib.Core.Bool.{Bool, true, false, cond}
 use mathlib.Core.List.{List, _++_}
 use mathlib.Core.Logic.{inl, inr, ⊎-elim}
 use lib.Dec.{ltb}
-use lib.ListN.{length, getD, length-map}
+use lib.ListN.{length, getD}
 use Rattle.meaning.specs.Formula.{Formula}
 use Rattle.meaning.specs.Run as run
 use Rattle.meaning.specs.Limits.{AcceptedTable}
-use Rattle.text.specs.Slot.{Slot, written}
+use Rattle.text.specs.Slot.{Slot}
 use Rattle.text.specs.Written.{textOf, smallOf}
-use Rattle.text.specs.Place.{fills-small}
+use Rattle.text.specs.Place.{Fills, fills-small, text-fills}
 use Rattle.text.specs.Small.{only-small}
 use Rattle.text.specs.Many.{below-length}
+use Rattle.text.specs.Lines.{lines, all-begun}
 use Rattle.answers.specs.declared.Kind.{Kind}
 use Rattle.answers.specs.declared.Kind.the-variants.{RuleLength, RuleText, Proposition, Nodes, Parts}
 use Rattle.answers.specs.declared.Outcome.{Outcome}
@@ -41,7 +41,8 @@ use Rattle.rule.specs.Valid.{RuleValue}
 use Rattle.rule.specs.Paper.{Beside}
 use Rattle.rule.proofs.Promises as rules
 use Rattle.log.specs.declared.Event.{Event}
-use Rattle.log.specs.Log.{lines, twenty, nothing, logForm, line-fixed, offset-lines}
+use Rattle.log.specs.Line.{line, lineBytes, line-fixed}
+use Rattle.log.specs.Log.{nothing, logForm}
 use Rattle.log.specs.declared.LogRead.{LogRead}
 use Rattle.log.specs.Promises as logs
 use Rattle.log.specs.Promises.{logSlots, logText, AllWritable, slots-are, all-ok, text-read}
@@ -55,14 +56,20 @@ use Rattle.promises.specs.RuleEnd.{stripped, end-said, end-dropped, end-
 
 -- ---- the readers
 
+-- a text that fills the lines of a log has as many as it has events
+lines-many : (w : ℕ) (es : List Event) (s : List ℕ) → AllWritable w es → Fills s (logForm w .slots es) → length s / lineBytes w ≡ length es
+unfolding lines
+lines-many w es s ok fills =
+    all-begun (lineBytes w) (length s) (length es) (line-fixed w .some)
+    (sym (fills .long) ∙ below-length (λ j. line w) (λ j. lineBytes w) (λ j. line-fixed w .bytes) (length es) (λ k. getD es k nothing) (all-ok w es .1 ok)) .1
+
 -- a log that was written is accepted
-log-taken : (es : List Event) → AllWritable es → Taken (logText es) es
-unfolding logForm
-log-taken es ok = record { accepts = ap (λ (r : LogRead). r .outcome) (text-read es ok .0); events = text-read es ok .1; many = long }
-  where
-    long : length (logText es) / 20 ≡ length es
-    long = let n = length-map (logSlots es) written in
-        omega (arith, ap length (slots-are es), below-length lines twenty line-fixed (length es) (λ k. getD es k nothing) (all-ok es .1 ok), offset-lines (length es))
+log-taken : (es : List Event) → AllWritable 2 es → Taken (logText 2 es) es
+log-taken es ok = record {
+  accepts = ap (λ (r : LogRead). r .outcome) (text-read 2 es ok .0);
+  events = text-read 2 es ok .1;
+  many = lines-many 2 es (logText 2 es) ok (rw (slots-are 2 es) (text-fills (logSlots 2 es)));
+}
 
 module _ (t : run.Plant) (table : AcceptedTable t) where
   -- behind the table's check
@@ -128,7 +135,7 @@ module _ (t : run.Plant) (table : AcceptedTable t) where
 
 pub front-door : FrontDoor
 front-door plant rule log t f es table-says table rule-says (log-is, writable) =
-    rw (log-is, table-read t table table-says rule (bytes (logText es)), behind-rule t table rule-says (bytes (logText es))) (behind-log t table rule-says (logText es) (log-taken es writable))
+    rw (log-is, table-read t table table-says rule (bytes (logText 2 es)), behind-rule t table rule-says (bytes (logText 2 es))) (behind-log t table rule-says (logText 2 es) (log-taken es writable))
 
 -- what a rule's text is answered: a refusal, or a rule
 data Answer : RuleRead → Type 0 where
@@ -169,11 +176,11 @@ module _ (plant : File) (t : run.Plant) (says : SaysTable plant t) (table : Acce
 
     of-log : (log : File) → OfLog t f log (outputOf plant rule log)
     of-log missing = no-log refl (behind-both missing)
-    of-log (bytes text) = by (logs.reading text)
+    of-log (bytes text) = by (logs.reading 2 text)
       where
-        by : logs.Reading text → OfLog t f (bytes text) (outputOf plant rule (bytes text))
+        by : logs.Reading 2 text → OfLog t f (bytes text) (outputOf plant rule (bytes text))
         by (logs.accepted es ok small r at) =
-            let log-says : SaysLog (bytes text) es = (as-written text (logSlots es) small, ok) in
+            let log-says : SaysLog (bytes text) es = (as-written text (logSlots 2 es) small, ok) in
             lamps es log-says (front-door plant rule (bytes text) t f es says table rule-says log-says)
         by (logs.misformed i p r) = log-refused text i refl p (behind-both (bytes text) ∙ rw (ap (λ (x : LogRead). x .outcome) r) refl)
 

@@ -53,7 +53,7 @@ pub record SaysRule (rule : File) (q : ℕ) (f : Formula) : Type 0 where
 
 -- log.txt says the events es
 abbrev pub SaysLog : File → List Event → Type 0
-SaysLog log es = (log ≡ bytes (logText es)) × AllWritable es
+SaysLog log es = (log ≡ bytes (logText 2 es)) × AllWritable 2 es
 
 -- ---- what is shown of them
 
@@ -90,7 +90,7 @@ pub record Shows (t : Plant) (f : Formula) (es : List Event) (output : List ℕ)
 pub data OfLog (t : Plant) (f : Formula) (log : File) (output : List ℕ) : Type 0 where
   lamps : (es : List Event) → SaysLog log es → Shows t f es output → OfLog t f log output
   no-log : log ≡ missing → output ≡ refused FileKind 0 → OfLog t f log output
-  log-refused : (text : List ℕ) (i : ℕ) → log ≡ bytes text → RefusedAt logForm text i → output ≡ refused LogText i → OfLog t f log output
+  log-refused : (text : List ℕ) (i : ℕ) → log ≡ bytes text → RefusedAt (logForm 2) text i → output ≡ refused LogText i → OfLog t f log output
 
 -- rule.txt, behind a table: a rule, or no file (14), or one of the reasons for 4 to 8, of the text with one final LF dropped
 pub data OfRule (t : Plant) (rule log : File) (output : List ℕ) : Type 0 where

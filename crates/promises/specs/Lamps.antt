@@ -46,8 +46,8 @@ use Rattle.promises.specs.FrontDoor.{LegalAt, RightAfter, Ends, at-end, 
 
 -- a log is accepted, and says these events
 pub record Taken (log : List ℕ) (es : List Event) : Type 0 where
-  pub accepts : logRead log .outcome ≡ Accepted
-  pub events : (k : ℕ) → eventAt log k ≡ getD es k nothing
+  pub accepts : logRead 2 log .outcome ≡ Accepted
+  pub events : (k : ℕ) → eventAt 2 log k ≡ getD es k nothing
   pub many : length log / 20 ≡ length es
 
 module _ (p : Plant) (fair label next : List ℕ) (rule : Rule) (input : Input p fair label next rule) where
@@ -214,7 +214,7 @@ module _ (p : Plant) (fair label next : List ℕ) (rule : Rule) (input : Input p
   pub played : {log : List ℕ} {es : List Event} → Taken log es → Shows T f es (said.playedText p fair label next rule log)
   unfolding said.playedText after
   played {log} {es} taken =
-      shown es (said.playedText p fair label next rule log) (at es (eventAt log) (taken .events) (length es)) (gone es (eventAt log) (taken .events) (length es) (omega arith))
+      shown es (said.playedText p fair label next rule log) (at es (eventAt 2 log) (taken .events) (length es)) (gone es (eventAt 2 log) (taken .events) (length es) (omega arith))
       (rw (prepare-accepted p fair label next rule (full p fair label next rule input) .1 input, opens, taken .many) refl)
     where
       opens : opened .answer ≡ Shown first

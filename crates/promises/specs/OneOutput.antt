@@ -52,7 +52,7 @@ rule-one {rule} {q} {f} {g} a b = one-tree (b .text) f g (subst (SaidBy f) (sym 
     text-is says = ⊎-elim (λ e. ap (λ (x : File). stripped (bytesOf x)) e ∙ end-said (says .said)) (λ e. ap (λ (x : File). stripped (bytesOf x)) e ∙ end-dropped (says .text)) (says .is)
 
 pub log-one : {log : File} {es fs : List Event} → SaysLog log es → SaysLog log fs → es ≡ fs
-log-one {es = es} {fs = fs} (is, ok) (is', ok') = logs.text-one es fs ok ok' (bytes-one (sym is ∙ is'))
+log-one {es = es} {fs = fs} (is, ok) (is', ok') = logs.text-one 2 es fs ok ok' (bytes-one (sym is ∙ is'))
 
 -- ---- what is shown
 

@@ -41,11 +41,11 @@ module _ (text : List ℕ) where
   pub read-table : Only (tableRead text)
   read-table = only (tableRead text)
 
-  pub read-log : Only (logRead text)
-  read-log = only (logRead text)
+  pub read-log : Only (logRead 2 text)
+  read-log = only (logRead 2 text)
 
-  pub event-at : (line : ℕ) → Only (eventAt text line)
-  event-at line = only (eventAt text line)
+  pub event-at : (line : ℕ) → Only (eventAt 2 text line)
+  event-at line = only (eventAt 2 text line)
 
 -- events and rule values
 pub is-legal : (event : Event) (props : ℕ) → Only (legalOf event props)

@@ -12,4 +12,6 @@ pub mod Read
 pub mod Took
 pub mod Many
 pub mod Small
+pub mod Lines
 pub mod Promises
+pub mod LinesRead

@@ -50,7 +50,7 @@ ruleGiven p fair label next (bytes text) = ruleRead p fair label next (take (end
 ruleGiven p fair label next missing = refusedAs FileKind 0
 
 abbrev pub logOutcome : File → Outcome
-logOutcome (bytes text) = logRead text .outcome
+logOutcome (bytes text) = logRead 2 text .outcome
 logOutcome missing = Refused (refusedAt FileKind 0)
 
 -- a refusal is the last line

@@ -23,7 +23,7 @@ mul-offset c =
     let opened = went .before .before .before .before in
     let start = opened .before .before .before .before .before in
     let a = start .args in
-    let k = counted (a .plant) (a .fair .now) (a .label .now) (a .next .now) (a .rule) (a .live) (opened .«open» .result .monitor) (eventAt (a .text .now)) (length (a .text .now) / 20) in
+    let k = counted (a .plant) (a .fair .now) (a .label .now) (a .next .now) (a .rule) (a .live) (opened .«open» .result .monitor) (eventAt 2 (a .text .now)) (length (a .text .now) / 20) in
     record { fits = omega (arith, done-few k (went .follow .ensures), start .good .1 .1 .1 .1 .1 .1) }
 
 pub from-start-spec : {M : Type 1} → statement M

@@ -20,7 +20,7 @@ put-went-requires c κs =
     let start = went .before .before .before .before .before .before .before .before in
     let a = start .args in
     let p = start .pre in
-    let k = counted (a .plant) (a .fair .now) (a .label .now) (a .next .now) (a .rule) (a .live) (a .monitor) (eventAt (a .log .now)) (length (a .log .now) / 20) in
+    let k = counted (a .plant) (a .fair .now) (a .label .now) (a .next .now) (a .rule) (a .live) (a .monitor) (eventAt 2 (a .log .now)) (length (a .log .now) / 20) in
     let h = went .follow .ensures in
     let few = done-few k h in
     let long = length-replicate {A = ℕ} 3276 0 in
@@ -31,7 +31,7 @@ returns c =
     let went = c .before .before .before .before .before .before .before .before in
     let start = went .before .before .before .before .before .before .before .before in
     let a = start .args in
-    let k = counted (a .plant) (a .fair .now) (a .label .now) (a .next .now) (a .rule) (a .live) (a .monitor) (eventAt (a .log .now)) (length (a .log .now) / 20) in
+    let k = counted (a .plant) (a .fair .now) (a .label .now) (a .next .now) (a .rule) (a .live) (a .monitor) (eventAt 2 (a .log .now)) (length (a .log .now) / 20) in
     let much = room (length (a .log .now)) (start .pre .2) in
     course-said k (went .follow .ensures) much much (c .before .before .put-went .ensures)
 
