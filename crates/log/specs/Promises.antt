@@ -1,7 +1,7 @@
 -- What is promised of logs. Check 10: `legal-exactly` in Legal. Here: what reading a log of w digits means.
 use Prim.Native.Nat.{ℕ, _<_}
 use mathlib.Core.Path.{_≡_, refl, sym, subst, ap, _∙_}
-use mathlib.Core.Logic.{_↔_, Iff·trans}
+use mathlib.Core.Logic.{_↔_}
 use mathlib.Core.Bool.{Bool, true, false, false≢true}
 use mathlib.Core.List.{List, [], _∷_, _++_}
 use lib.ListN.{length, getD}
@@ -15,9 +15,8 @@ use Rattle.text.specs.Hex.{hex}
 use Rattle.text.specs.Count.{counted}
 use Rattle.text.specs.Many.{slotsBelow}
 use Rattle.text.specs.Written.{textOf, smallOf}
-use Rattle.text.specs.Small.{only-small}
-use Rattle.text.specs.Place.{Fills, OfForm, RefusedAt, fills-small, text-fills, refused-one}
-use Rattle.text.specs.Promises.{of-form-written, written-one}
+use Rattle.text.specs.Place.{Fills, OfForm, RefusedAt, refused-one}
+use Rattle.text.specs.Promises.{WrittenOut, written-small, filled-out, of-form-out, out-one}
 use Rattle.text.specs.Lines.{lines, first-line}
 use Rattle.text.specs.LinesRead.{Told, lined, misfit, told}
 use Rattle.log.specs.declared.Event.{Event}
@@ -56,15 +55,21 @@ pub all-ok : (w : ℕ) (es : List Event) → logForm w .Ok es ↔ AllWritable w 
 unfolding lines seen
 all-ok w es = (λ ok. ok, λ ok. ok)
 
-fills-log : (w : ℕ) (es : List Event) (s : List ℕ) → Fills s (logForm w .slots es) ↔ (smallOf (logSlots w es) s ≡ logText w es)
-fills-log w es s = subst (λ (ts : List Slot). Fills s (logForm w .slots es) ↔ (smallOf ts s ≡ textOf ts)) (slots-are w es) (fills-small s (logForm w .slots es))
+-- it is the one written out
+pub log-out : (w : ℕ) → WrittenOut (logForm w) (AllWritable w) (logSlots w)
+log-out w = record { well = all-ok w; slots-are = slots-are w }
 
--- a text is of the form exactly if it is the text of a log; while small digits alone are read
-pub form-exactly : (w : ℕ) (s : List ℕ) → OfForm (logForm w) s ↔ ((es : List Event) × AllWritable w es × (s ≡ logText w es))
-form-exactly w s = Iff·trans (of-form-written (logForm w) s) (
-  λ (es, ok, e). (es, all-ok w es .0 ok, e ∙ ap textOf (slots-are w es)),
-  λ (es, ok, e). (es, all-ok w es .1 ok, e ∙ ap textOf (sym (slots-are w es))),
-)
+-- a text fills the slots of a log exactly if it is, its digits made small, that log's text
+fills-log : (w : ℕ) (es : List Event) (s : List ℕ) → Fills s (logForm w .slots es) ↔ (smallOf (logSlots w es) s ≡ logText w es)
+fills-log w = filled-out (log-out w)
+
+-- a text is of the form exactly if it is, its digits made small, the text of a log
+pub form-exactly : (w : ℕ) (s : List ℕ) → OfForm (logForm w) s ↔ ((es : List Event) × AllWritable w es × (smallOf (logSlots w es) s ≡ logText w es))
+form-exactly w = of-form-out (log-out w)
+
+-- two logs have different texts
+pub text-one : (w : ℕ) (es fs : List Event) → AllWritable w es → AllWritable w fs → logText w es ≡ logText w fs → es ≡ fs
+text-one w = out-one (log-out w) (log-whole w)
 
 -- ---- what each text is answered, and why
 
@@ -82,23 +87,21 @@ reading w s = by-case (told (line w) (lineBytes w) (line-fixed w) nothing refuse
     by-case (lined es ok f r at) = accepted es (all-ok w es .0 ok) (fills-log w es s .0 f) r at
     by-case (misfit i p r) = misformed i p r
 
--- the text of a log is accepted, with as many lines, and the event of each is the log's
-pub text-read : (w : ℕ) (es : List Event) → AllWritable w es → (logRead w (logText w es) ≡ acceptedLog (length es)) × ((k : ℕ) → eventAt w (logText w es) k ≡ getD es k nothing)
-text-read w es ok = by-case (reading w (logText w es))
+-- a text that is, its digits made small, the text of a log is accepted, with as many lines, and the event of each is the log's
+pub small-read :
+    (w : ℕ) (es : List Event) (s : List ℕ) → AllWritable w es → smallOf (logSlots w es) s ≡ logText w es
+    → (logRead w s ≡ acceptedLog (length es)) × ((k : ℕ) → eventAt w s k ≡ getD es k nothing)
+small-read w es s ok f = by-case (reading w s)
   where
-    filled : Fills (logText w es) (logForm w .slots es)
-    filled = rw (slots-are w es) (text-fills (logSlots w es))
-
-    by-case : Reading w (logText w es) → (logRead w (logText w es) ≡ acceptedLog (length es)) × ((k : ℕ) → eventAt w (logText w es) k ≡ getD es k nothing)
+    by-case : Reading w s → (logRead w s ≡ acceptedLog (length es)) × ((k : ℕ) → eventAt w s k ≡ getD es k nothing)
     by-case (accepted fs ok′ e r at) =
-        let same : fs ≡ es = sym (log-whole w .exact fs (logText w es) (all-ok w fs .1 ok′) (fills-log w fs (logText w es) .1 e)) ∙ log-whole w .exact es (logText w es) (all-ok w es .1 ok) filled in
+        let same : fs ≡ es = sym (log-whole w .exact fs s (all-ok w fs .1 ok′) (fills-log w fs s .1 e)) ∙ log-whole w .exact es s (all-ok w es .1 ok) (fills-log w es s .1 f) in
         (r ∙ ap (λ (x : List Event). acceptedLog (length x)) same, λ k. at k ∙ ap (λ (x : List Event). getD x k nothing) same)
-    by-case (misformed i p r) = absurd (p .not-of-form (record { value = es; ok = all-ok w es .1 ok; fills = filled }))
+    by-case (misformed i p r) = absurd (p .not-of-form (record { value = es; ok = all-ok w es .1 ok; fills = fills-log w es s .1 f }))
 
--- two logs have different texts
-pub text-one : (w : ℕ) (es fs : List Event) → AllWritable w es → AllWritable w fs → logText w es ≡ logText w fs → es ≡ fs
-text-one w es fs ok ok′ e =
-    written-one (log-whole w) es fs (all-ok w es .1 ok) (all-ok w fs .1 ok′) (ap textOf (slots-are w es) ∙ e ∙ ap textOf (sym (slots-are w fs)))
+-- so is the text itself
+pub text-read : (w : ℕ) (es : List Event) → AllWritable w es → (logRead w (logText w es) ≡ acceptedLog (length es)) × ((k : ℕ) → eventAt w (logText w es) k ≡ getD es k nothing)
+text-read w es ok = small-read w es (logText w es) ok (written-small (logSlots w es))
 
 abbrev outcomeOf : LogRead → Outcome
 outcomeOf r = r .outcome
@@ -111,13 +114,24 @@ abbrev placeOf : Outcome → ℕ
 placeOf Accepted = 0
 placeOf (Refused r) = r .place
 
--- accepted exactly if it is the text of a log; while small digits alone are read
-pub accepted-written : (w : ℕ) (s : List ℕ) → (logRead w s .outcome ≡ Accepted) ↔ ((es : List Event) × AllWritable w es × (s ≡ logText w es))
-accepted-written w s = (λ e. by-case e (reading w s), λ (es, ok, e). rw e (ap outcomeOf (text-read w es ok .0)))
+-- an accepted text is, its digits made small, the text of a log, and these are its lines and the events read
+pub accepted-text :
+    (w : ℕ) (s : List ℕ) → logRead w s .outcome ≡ Accepted
+    → (es : List Event) × AllWritable w es × (smallOf (logSlots w es) s ≡ logText w es) × (logRead w s .lines ≡ length es) × ((k : ℕ) → eventAt w s k ≡ getD es k nothing)
+accepted-text w s e = by-case (reading w s)
   where
-    by-case : logRead w s .outcome ≡ Accepted → Reading w s → (es : List Event) × AllWritable w es × (s ≡ logText w es)
-    by-case e (accepted es ok f r at) = (es, ok, sym (only-small s (logSlots w es) (fills-small s (logSlots w es) .1 f)) ∙ f)
-    by-case e (misformed i p r) = absurd (false≢true (ap isAccepted (sym (ap outcomeOf r) ∙ e)))
+    by-case :
+        Reading w s
+        → (es : List Event) × AllWritable w es × (smallOf (logSlots w es) s ≡ logText w es) × (logRead w s .lines ≡ length es) × ((k : ℕ) → eventAt w s k ≡ getD es k nothing)
+    by-case (accepted es ok f r at) = (es, ok, f, ap (λ (x : LogRead). x .lines) r, at)
+    by-case (misformed i p r) = absurd (false≢true (ap isAccepted (sym (ap outcomeOf r) ∙ e)))
+
+-- accepted exactly if it is, its digits made small, the text of a log
+pub accepted-small : (w : ℕ) (s : List ℕ) → (logRead w s .outcome ≡ Accepted) ↔ ((es : List Event) × AllWritable w es × (smallOf (logSlots w es) s ≡ logText w es))
+accepted-small w s = (
+  λ e. let (es, ok, f, lines, at) = accepted-text w s e in (es, ok, f),
+  λ (es, ok, e). ap outcomeOf (small-read w es s ok e .0),
+)
 
 -- refused by 12 exactly at the place that 01 names: the first byte at which no log begins with what was read, the length where it only stops too soon
 pub twelve-exactly : (w : ℕ) (s : List ℕ) (i : ℕ) → (logRead w s ≡ refusedLog i) ↔ RefusedAt (logForm w) s i

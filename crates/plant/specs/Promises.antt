@@ -1,7 +1,7 @@
 -- What is promised of plant tables. The check of a table handed in: `accepted-exactly`, `counts-refused`, `bits-refused` in Check. Here: what reading a text means.
 use Prim.Native.Nat.{ℕ, _^_, _≤_, _<_}
 use mathlib.Core.Path.{_≡_, refl, sym, subst, ap, _∙_}
-use mathlib.Core.Logic.{_↔_, ⊎-elim, Iff·trans}
+use mathlib.Core.Logic.{_↔_, ⊎-elim}
 use mathlib.Core.Bool.{Bool, true, false}
 use mathlib.Core.List.{List}
 use native.Mathlib.Nat.{lt-of-lt-of-le}
@@ -15,10 +15,9 @@ use Rattle.answers.specs.declared.Outcome.{Outcome}
 use Rattle.answers.specs.declared.Outcome.the-variants.{Accepted, Refused}
 use Rattle.answers.specs.Paper.{refusedAt}
 use Rattle.text.specs.Slot.{Slot, matched}
-use Rattle.text.specs.Written.{textOf, smallOf}
-use Rattle.text.specs.Place.{Fills, OfForm, RefusedAt, reads-whole, misfits, fills-exactly, fills-small, text-fills, form-value, refused-one}
-use Rattle.text.specs.Small.{only-small}
-use Rattle.text.specs.Promises.{fitOf, filled-small, of-form-written, form-or-place, written-one}
+use Rattle.text.specs.Written.{smallOf}
+use Rattle.text.specs.Place.{Fills, OfForm, RefusedAt, reads-whole, misfits, fills-exactly, form-value, refused-one}
+use Rattle.text.specs.Promises.{WrittenOut, fitOf, written-small, form-or-place, filled-out, of-form-out, out-one}
 use Rattle.plant.specs.declared.Plant.{Plant}
 use Rattle.plant.specs.declared.TableRead.{TableRead}
 use Rattle.plant.specs.Table.{plantOf, refusedAs, Lengths, BitBeyond}
@@ -29,21 +28,21 @@ use Rattle.plant.specs.Written.{WellFormed, tableSlots, tableText, slots
 
 -- ---- the form
 
+-- it is the one written out
+pub table-out : WrittenOut tableForm WellFormed tableSlots
+table-out = record { well = λ t. (formed-well t, well-formed t); slots-are = slots-are }
+
 -- a text fills the slots of a table exactly if it is, its digits made small, that table's text
 fills-table : (t : run.Plant) (s : List ℕ) → Fills s (tableForm .slots t) ↔ (smallOf (tableSlots t) s ≡ tableText t)
-fills-table t s = subst (λ (ts : List Slot). Fills s (tableForm .slots t) ↔ (smallOf ts s ≡ textOf ts)) (slots-are t) (filled-small tableForm t s)
+fills-table = filled-out table-out
 
--- a text is of the form exactly if it is the text of a table; while small digits alone are read
-pub form-exactly : (s : List ℕ) → OfForm tableForm s ↔ ((t : run.Plant) × WellFormed t × (s ≡ tableText t))
-form-exactly s = Iff·trans (of-form-written tableForm s) (
-  λ (t, ok, e). (t, formed-well t ok, e ∙ ap textOf (slots-are t)),
-  λ (t, w, e). (t, well-formed t w, e ∙ ap textOf (sym (slots-are t))),
-)
+-- a text is of the form exactly if it is, its digits made small, the text of a table
+pub form-exactly : (s : List ℕ) → OfForm tableForm s ↔ ((t : run.Plant) × WellFormed t × (smallOf (tableSlots t) s ≡ tableText t))
+form-exactly = of-form-out table-out
 
 -- two tables have different texts
 pub text-one : (t u : run.Plant) → WellFormed t → WellFormed u → tableText t ≡ tableText u → t ≡ u
-text-one t u w v e =
-    written-one (reads-whole table-reads) t u (well-formed t w) (well-formed u v) (ap textOf (slots-are t) ∙ e ∙ ap textOf (sym (slots-are u)))
+text-one = out-one table-out (reads-whole table-reads)
 
 -- ---- what is read
 
@@ -56,7 +55,7 @@ small-read t s w e =
 
 -- so is the text itself
 pub text-read : (t : run.Plant) → WellFormed t → tableRead (tableText t) ≡ answered (checkOf t) (tableOf t)
-text-read t w = small-read t (tableText t) w (fills-small (tableText t) (tableSlots t) .0 (text-fills (tableSlots t)))
+text-read t w = small-read t (tableText t) w (written-small (tableSlots t))
 
 -- the counts of a table that can be written are right: no text is refused by 1
 well-counted : (t : run.Plant) → WellFormed t → Lengths (countsIn t) (length (t .fair)) (length (t .label)) (length (t .next))
@@ -88,10 +87,13 @@ accepted-formed t a =
     wide : {n : ℕ} (m x : ℕ) → n ≤ m → x < 2 ^ n → x < 2 ^ m
     wide m x h l = lt-of-lt-of-le l (pow-mono h)
 
+-- and passes the check
+passes : (t : run.Plant) → AcceptedTable t → checkOf t ≡ Accepted
+passes t a = accepted-exactly (countsIn t) (t .fair) (t .label) (t .next) .1 (refl, a)
+
 -- the text of a table that 01 accepts is read as that table
 pub accepted-read : (t : run.Plant) → AcceptedTable t → tableRead (tableText t) ≡ record { outcome = Accepted; table = tableOf t }
-accepted-read t a =
-    text-read t (accepted-formed t a) ∙ ap (λ (o : Outcome). answered o (tableOf t)) (accepted-exactly (countsIn t) (t .fair) (t .label) (t .next) .1 (refl, a))
+accepted-read t a = text-read t (accepted-formed t a) ∙ ap (λ (o : Outcome). answered o (tableOf t)) (passes t a)
 
 -- ---- what each text is answered, and why
 
@@ -142,26 +144,22 @@ accepted-text s e = by-case (reading s)
     by-case (beyond t w b f r) = differ _ _ (λ n. omega arith) e (ap outcomeOf r)
     by-case (misformed i p r) = differ _ _ (λ n. omega arith) e (ap outcomeOf r)
 
--- while small digits alone are read, such a text is the written one
-written-same : (t : run.Plant) (s : List ℕ) → smallOf (tableSlots t) s ≡ tableText t → s ≡ tableText t
-written-same t s e = sym (only-small s (tableSlots t) (fills-small s (tableSlots t) .1 e)) ∙ e
-
--- accepted exactly if it is the text of a table that 01 accepts; while small digits alone are read
-pub accepted-written : (s : List ℕ) → (tableRead s .outcome ≡ Accepted) ↔ ((t : run.Plant) × AcceptedTable t × (s ≡ tableText t))
-accepted-written s = (
-  λ e. let (t, a, f, r) = accepted-text s e in (t, a, written-same t s f),
-  λ (t, a, e). rw e (ap outcomeOf (accepted-read t a)),
+-- accepted exactly if it is, its digits made small, the text of a table that 01 accepts
+pub accepted-small : (s : List ℕ) → (tableRead s .outcome ≡ Accepted) ↔ ((t : run.Plant) × AcceptedTable t × (smallOf (tableSlots t) s ≡ tableText t))
+accepted-small s = (
+  λ e. let (t, a, f, r) = accepted-text s e in (t, a, f),
+  λ (t, a, e). ap outcomeOf (small-read t s (accepted-formed t a) e) ∙ ap (λ (o : Outcome). outcomeOf (answered o (tableOf t))) (passes t a),
 )
 
--- refused by 2 exactly if it is the text of a table with a bit beyond the counts; while small digits alone are read
+-- refused by 2 exactly if it is, its digits made small, the text of a table with a bit beyond the counts
 pub two-exactly :
     (s : List ℕ)
-    → (tableRead s ≡ refusedRead (refusedAt Bits 0)) ↔ ((t : run.Plant) × WellFormed t × BitBeyond (countsIn t) (t .fair) (t .label) (t .next) × (s ≡ tableText t))
-two-exactly s = (λ e. by-case e (reading s), λ (t, w, b, e). rw e (text-read t w ∙ ap (λ (o : Outcome). answered o (tableOf t)) (bits-refused (countsIn t) (t .fair) (t .label) (t .next) .1 (well-counted t w, b))))
+    → (tableRead s ≡ refusedRead (refusedAt Bits 0)) ↔ ((t : run.Plant) × WellFormed t × BitBeyond (countsIn t) (t .fair) (t .label) (t .next) × (smallOf (tableSlots t) s ≡ tableText t))
+two-exactly s = (λ e. by-case e (reading s), λ (t, w, b, e). small-read t s w e ∙ ap (λ (o : Outcome). answered o (tableOf t)) (bits-refused (countsIn t) (t .fair) (t .label) (t .next) .1 (well-counted t w, b)))
   where
-    by-case : tableRead s ≡ refusedRead (refusedAt Bits 0) → Reading s → (t : run.Plant) × WellFormed t × BitBeyond (countsIn t) (t .fair) (t .label) (t .next) × (s ≡ tableText t)
+    by-case : tableRead s ≡ refusedRead (refusedAt Bits 0) → Reading s → (t : run.Plant) × WellFormed t × BitBeyond (countsIn t) (t .fair) (t .label) (t .next) × (smallOf (tableSlots t) s ≡ tableText t)
     by-case e (accepted t a f r) = differ _ _ (λ n. omega arith) (ap outcomeOf e) (ap outcomeOf r)
-    by-case e (beyond t w b f r) = (t, w, b, written-same t s f)
+    by-case e (beyond t w b f r) = (t, w, b, f)
     by-case e (misformed i p r) = differ _ _ (λ n. omega arith) (ap outcomeOf e) (ap outcomeOf r)
 
 abbrev placeOf : Outcome → ℕ

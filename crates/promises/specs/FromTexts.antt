@@ -9,10 +9,9 @@ use lib.ListN.{length, getD}
 use Rattle.meaning.specs.Formula.{Formula}
 use Rattle.meaning.specs.Run as run
 use Rattle.meaning.specs.Limits.{AcceptedTable}
-use Rattle.text.specs.Slot.{Slot}
-use Rattle.text.specs.Written.{textOf, smallOf}
-use Rattle.text.specs.Place.{Fills, fills-small, text-fills}
-use Rattle.text.specs.Small.{only-small}
+use Rattle.text.specs.Written.{smallOf}
+use Rattle.text.specs.Place.{Fills}
+use Rattle.text.specs.Promises.{filled-out}
 use Rattle.text.specs.Many.{below-length}
 use Rattle.text.specs.Lines.{lines, all-begun}
 use Rattle.answers.specs.declared.Kind.{Kind}
@@ -23,9 +22,9 @@ use Rattle.plant.specs.declared.Plant.{Plant}
 use Rattle.plant.specs.Table.{tableOutcome}
 use Rattle.plant.specs.Check.{accepted-exactly}
 use Rattle.plant.specs.Read.{countsIn, take-padded}
-use Rattle.plant.specs.Written.{tableSlots}
+use Rattle.plant.specs.Written.{tableSlots, tableText}
 use Rattle.plant.specs.Promises as plants
-use Rattle.plant.specs.Promises.{accepted-read}
+use Rattle.plant.specs.Promises.{accepted-formed}
 use Rattle.syntax.specs.declared.Rule.{Rule}
 use Rattle.syntax.specs.declared.Scan.{Scan}
 use Rattle.syntax.specs.declared.Scan.the-variants.{Good, Bad}
@@ -45,7 +44,7 @@ use Rattle.log.specs.Line.{line, lineBytes, line-fixed}
 use Rattle.log.specs.Log.{nothing, logForm}
 use Rattle.log.specs.declared.LogRead.{LogRead}
 use Rattle.log.specs.Promises as logs
-use Rattle.log.specs.Promises.{logSlots, logText, AllWritable, slots-are, all-ok, text-read}
+use Rattle.log.specs.Promises.{AllWritable, all-ok, log-out, small-read}
 use Rattle.checks.proofs.Input.{Input, given, formula-is}
 use Rattle.report.specs.Text.{lf}
 use Rattle.transcript.specs.Said as said
@@ -63,26 +62,32 @@ lines-many w es s ok fills =
     all-begun (lineBytes w) (length s) (length es) (line-fixed w .some)
     (sym (fills .long) ∙ below-length (λ j. line w) (λ j. lineBytes w) (λ j. line-fixed w .bytes) (length es) (λ k. getD es k nothing) (all-ok w es .1 ok)) .1
 
--- a log that was written is accepted
-log-taken : (es : List Event) → AllWritable 2 es → Taken (logText 2 es) es
-log-taken es ok = record {
-  accepts = ap (λ (r : LogRead). r .outcome) (text-read 2 es ok .0);
-  events = text-read 2 es ok .1;
-  many = lines-many 2 es (logText 2 es) ok (rw (slots-are 2 es) (text-fills (logSlots 2 es)));
-}
+-- a log that says events is accepted
+log-taken : {log : File} {es : List Event} (says : SaysLog log es) → Taken (says .text) es
+log-taken {log} {es} says = let read = small-read 2 es (says .text) (says .writable) (says .said) in
+    record {
+      accepts = ap (λ (r : LogRead). r .outcome) (read .0);
+      events = read .1;
+      many = lines-many 2 es (says .text) (says .writable) (filled-out (log-out 2) es (says .text) .1 (says .said));
+    }
 
 module _ (t : run.Plant) (table : AcceptedTable t) where
   -- behind the table's check
   abbrev ruled : File → File → List ℕ
   ruled rule log = said.ruleText (countsIn t) (t .fair) (t .label) (t .next) rule log
 
-  -- the table that was written is lent, part by part
+  -- it passes the check
+  abbrev passes-check : tableOutcome (countsIn t) (t .fair) (t .label) (t .next) ≡ Accepted
+  passes-check = accepted-exactly (countsIn t) (t .fair) (t .label) (t .next) .1 (refl, table)
+
+  -- the table that is said is lent, part by part
   table-read : {plant : File} → SaysTable plant t → (rule log : File) → outputOf plant rule log ≡ ruled rule log
   unfolding outputOf
   table-read says rule log =
       rw (
-        says,
-        accepted-read t table,
+        says .is,
+        plants.small-read t (says .text) (accepted-formed t table) (says .said),
+        passes-check,
         take-padded 4 (length (t .fair)) (t .fair) refl (table .few-fair),
         take-padded 64 (t .states) (t .label) (table .labels) (table .few-states),
         take-padded 64 (t .states) (t .next) (table .nexts) (table .few-states),
@@ -118,7 +123,7 @@ module _ (t : run.Plant) (table : AcceptedTable t) where
 
     -- and with the table it passes the checks
     passes : Input (countsIn t) (t .fair) (t .label) (t .next) (ruleOf f)
-    passes = given (countsIn t) (t .fair) (t .label) (t .next) (ruleOf f) (accepted-exactly (countsIn t) (t .fair) (t .label) (t .next) .1 (refl, table)) value
+    passes = given (countsIn t) (t .fair) (t .label) (t .next) (ruleOf f) passes-check value
 
     -- behind the rule's check
     behind-rule : (log : File) → ruled rule log ≡ said.logText (countsIn t) (t .fair) (t .label) (t .next) (ruleOf f) log
@@ -134,8 +139,8 @@ module _ (t : run.Plant) (table : AcceptedTable t) where
 -- ---- THE CLAIMS
 
 pub front-door : FrontDoor
-front-door plant rule log t f es table-says table rule-says (log-is, writable) =
-    rw (log-is, table-read t table table-says rule (bytes (logText 2 es)), behind-rule t table rule-says (bytes (logText 2 es))) (behind-log t table rule-says (logText 2 es) (log-taken es writable))
+front-door plant rule log t f es table-says table rule-says log-says = let text = bytes (log-says .text) in
+    rw (log-says .is, table-read t table table-says rule text, behind-rule t table rule-says text) (behind-log t table rule-says (log-says .text) (log-taken log-says))
 
 -- what a rule's text is answered: a refusal, or a rule
 data Answer : RuleRead → Type 0 where
@@ -165,10 +170,6 @@ answer p fair label next s = by-table (tableOutcome p fair label next) _ (either
     r : Rule
     r = reader.written emptyRule (parse s)
 
--- a text that is, its digits made small, the written one is the written one: small digits alone are read
-as-written : (s : List ℕ) (ts : List Slot) → smallOf ts s ≡ textOf ts → bytes s ≡ bytes (textOf ts)
-as-written s ts e = ap bytes (sym (only-small s ts (fills-small s ts .1 e)) ∙ e)
-
 module _ (plant : File) (t : run.Plant) (says : SaysTable plant t) (table : AcceptedTable t) where
   module _ (rule : File) (f : Formula) (rule-says : SaysRule rule (t .props) f) where
     behind-both : (log : File) → outputOf plant rule log ≡ said.logText (countsIn t) (t .fair) (t .label) (t .next) (ruleOf f) log
@@ -180,7 +181,7 @@ module _ (plant : File) (t : run.Plant) (says : SaysTable plant t) (table : Acce
       where
         by : logs.Reading 2 text → OfLog t f (bytes text) (outputOf plant rule (bytes text))
         by (logs.accepted es ok small r at) =
-            let log-says : SaysLog (bytes text) es = (as-written text (logSlots 2 es) small, ok) in
+            let log-says : SaysLog (bytes text) es = record { text = text; is = refl; said = small; writable = ok } in
             lamps es log-says (front-door plant rule (bytes text) t f es says table rule-says log-says)
         by (logs.misformed i p r) = log-refused text i refl p (behind-both (bytes text) ∙ rw (ap (λ (x : LogRead). x .outcome) r) refl)
 
@@ -211,7 +212,10 @@ unfolding outputOf
 every-output missing rule log = no-plant refl refl
 every-output (bytes text) rule log = by (plants.reading text)
   where
+    table-says : (t : run.Plant) → smallOf (tableSlots t) text ≡ tableText t → SaysTable (bytes text) t
+    table-says t small = record { text = text; is = refl; said = small }
+
     by : plants.Reading text → Output (bytes text) rule log (outputOf (bytes text) rule log)
-    by (plants.accepted t table small r) = let says = as-written text (tableSlots t) small in table-said t says table (of-rule (bytes text) t says table rule log)
-    by (plants.beyond t formed b small r) = bit-beyond t (as-written text (tableSlots t) small) formed b (rw r refl)
+    by (plants.accepted t table small r) = let says = table-says t small in table-said t says table (of-rule (bytes text) t says table rule log)
+    by (plants.beyond t formed b small r) = bit-beyond t (table-says t small) formed b (rw r refl)
     by (plants.misformed i p r) = table-refused text i refl p (rw r refl)

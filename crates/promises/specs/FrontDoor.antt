@@ -1,7 +1,8 @@
 -- THE FRONT DOOR: what the program writes, from the bytes of plant.txt, rule.txt and log.txt to the lamps. Two claims stand at the end. FromTexts proves them, as `front-door` and
 -- `every-output`; this page has no proof, so what it takes from other files is what must be believed.
 -- Read beside it: meaning/specs (rules, runs, events, verdicts); the forms of the texts, `tableText` (plant/specs/Written), `SaidBy` (syntax/specs/Grammar) and `logText` (log/specs/Promises);
--- and the lines, `startText`, `lampText` and `refusedText` (report/specs/Text). `outputOf` is by its contract what `write_output` (transcript/src) puts into the buffer that the program writes out.
+-- `smallOf` (text/specs/Written), which makes the digits of a text small; and the lines, `startText`, `lampText` and `refusedText` (report/specs/Text).
+-- `outputOf` is by its contract what `write_output` (transcript/src) puts into the buffer that the program writes out.
 use Prim.Native.Nat.{ℕ, suc, _*_, _≤_, _<_}
 use mathlib.Core.Path.{_≡_}
 use mathlib.Core.Logic.{_⊎_}
@@ -11,6 +12,7 @@ use Rattle.meaning.specs.Formula.{Formula, size, parts}
 use Rattle.meaning.specs.Run.{Plant}
 use Rattle.meaning.specs.Event.{since}
 use Rattle.meaning.specs.Limits.{AcceptedTable, Legal}
+use Rattle.text.specs.Written.{smallOf}
 use Rattle.text.specs.Place.{RefusedAt}
 use Rattle.answers.specs.declared.Kind.{Kind}
 use Rattle.answers.specs.declared.Kind.the-variants.{Bits, TableText, LogText, Event as EventKind, File as FileKind}
@@ -20,14 +22,14 @@ use Rattle.answers.specs.Paper.{refusedAt}
 use Rattle.plant.specs.Table.{BitBeyond}
 use Rattle.plant.specs.Text.{tableForm}
 use Rattle.plant.specs.Read.{countsIn}
-use Rattle.plant.specs.Written.{WellFormed, tableText}
+use Rattle.plant.specs.Written.{WellFormed, tableSlots, tableText}
 use Rattle.syntax.specs.Grammar.{SaidBy}
 use Rattle.syntax.specs.Print.{Below}
 use Rattle.rule.specs.Paper.{Because}
 use Rattle.log.specs.declared.Event.{Event}
 use Rattle.log.specs.Legal.{seenOf}
 use Rattle.log.specs.Log.{nothing, logForm}
-use Rattle.log.specs.Promises.{AllWritable, logText}
+use Rattle.log.specs.Promises.{AllWritable, logSlots, logText}
 use Rattle.advance.specs.Held.{eventOf}
 use Rattle.report.specs.Text.{startText, refusedText, lf}
 use Rattle.transcript.specs.End.{endOf}
@@ -37,9 +39,11 @@ use Rattle.promises.specs.Demand.{Lit}
 
 -- ---- what the three files say
 
--- plant.txt says the table t
-abbrev pub SaysTable : File → Plant → Type 0
-SaysTable plant t = plant ≡ bytes (tableText t)
+-- plant.txt says the table t: its text is, the digits made small, the one written for t
+pub record SaysTable (plant : File) (t : Plant) : Type 0 where
+  pub text : List ℕ
+  pub is : plant ≡ bytes text
+  pub said : smallOf (tableSlots t) text ≡ tableText t
 
 -- rule.txt says the rule f, within the limits and of propositions below q; one LF may stand behind it
 pub record SaysRule (rule : File) (q : ℕ) (f : Formula) : Type 0 where
@@ -51,9 +55,12 @@ pub record SaysRule (rule : File) (q : ℕ) (f : Formula) : Type 0 where
   pub small : size f ≤ 32
   pub few : parts f ≤ 6
 
--- log.txt says the events es
-abbrev pub SaysLog : File → List Event → Type 0
-SaysLog log es = (log ≡ bytes (logText 2 es)) × AllWritable 2 es
+-- log.txt says the events es: its text is, the digits made small, the one written for them
+pub record SaysLog (log : File) (es : List Event) : Type 0 where
+  pub text : List ℕ
+  pub is : log ≡ bytes text
+  pub said : smallOf (logSlots 2 es) text ≡ logText 2 es
+  pub writable : AllWritable 2 es
 
 -- ---- what is shown of them
 

@@ -8,6 +8,11 @@ use lib.ListN.{length, getD}
 use lib.Seq.{ext-getD}
 use Rattle.words.specs.Folds.{count-same}
 use Rattle.words.specs.Truth.{says-same}
+use Rattle.text.specs.Slot.{Slot}
+use Rattle.text.specs.Form.{Form}
+use Rattle.text.specs.Written.{textOf, smallOf}
+use Rattle.text.specs.Place.{Whole, reads-whole}
+use Rattle.text.specs.Promises.{WrittenOut, filled-out}
 use Rattle.text.specs.Cases.{below-or-beyond}
 use Rattle.meaning.specs.Formula.{Formula}
 use Rattle.meaning.specs.Run.{Plant}
@@ -23,12 +28,13 @@ use Rattle.answers.specs.declared.Answer.the-variants.{Shown}
 use Rattle.answers.specs.declared.Answer.the-variants as Answers
 use Rattle.answers.specs.Paper.{Paper, verdict, refused, accepted, numberOf}
 use Rattle.answers.proofs.One.{one-answer}
-use Rattle.plant.specs.Promises as plants
-use Rattle.plant.specs.Promises.{accepted-formed}
+use Rattle.plant.specs.Text.{table-reads}
+use Rattle.plant.specs.Promises.{table-out, accepted-formed}
 use Rattle.syntax.specs.Grammar.{SaidBy}
 use Rattle.rule.proofs.Promises.{one-tree}
 use Rattle.log.specs.declared.Event.{Event}
-use Rattle.log.specs.Promises as logs
+use Rattle.log.specs.Log.{log-whole}
+use Rattle.log.specs.Promises.{log-out}
 use Rattle.report.specs.Text.{startText}
 use Rattle.transcript.specs.Lines.{dark, linesText}
 use Rattle.transcript.specs.Said.{File, bytes, bytesOf}
@@ -39,11 +45,16 @@ use Rattle.promises.specs.FrontDoor.{SaysTable, SaysRule, SaysLog, Ends,
 
 -- ---- what files say
 
-bytes-one : {s r : List ℕ} → bytes s ≡ bytes r → s ≡ r
-bytes-one e = ap bytesOf e
+-- a text is, its digits made small, the one written for one value
+value-one :
+    {A : Type 0} {F : Form A} {Well : A → Type 0} {out : A → List Slot} → WrittenOut F Well out → Whole F → (a b : A) {s r : List ℕ} → bytes s ≡ bytes r → Well a → Well b
+    → smallOf (out a) s ≡ textOf (out a) → smallOf (out b) r ≡ textOf (out b) → a ≡ b
+value-one {F = F} w reads a b {s} {r} same ok ok' e e' =
+    sym (reads .exact a s (w .well a .1 ok) (filled-out w a s .1 e)) ∙ ap (λ (x : File). F .guess (bytesOf x)) same ∙ reads .exact b r (w .well b .1 ok') (filled-out w b r .1 e')
 
 pub table-one : {plant : File} {t u : Plant} → AcceptedTable t → AcceptedTable u → SaysTable plant t → SaysTable plant u → t ≡ u
-table-one {t = t} {u = u} a b says says' = plants.text-one t u (accepted-formed t a) (accepted-formed u b) (bytes-one (sym says ∙ says'))
+table-one {t = t} {u = u} a b says says' =
+    value-one table-out (reads-whole table-reads) t u (sym (says .is) ∙ says' .is) (accepted-formed t a) (accepted-formed u b) (says .said) (says' .said)
 
 pub rule-one : {rule : File} {q : ℕ} {f g : Formula} → SaysRule rule q f → SaysRule rule q g → f ≡ g
 rule-one {rule} {q} {f} {g} a b = one-tree (b .text) f g (subst (SaidBy f) (sym (text-is a) ∙ text-is b) (a .said)) (b .said)
@@ -52,7 +63,8 @@ rule-one {rule} {q} {f} {g} a b = one-tree (b .text) f g (subst (SaidBy f) (sym 
     text-is says = ⊎-elim (λ e. ap (λ (x : File). stripped (bytesOf x)) e ∙ end-said (says .said)) (λ e. ap (λ (x : File). stripped (bytesOf x)) e ∙ end-dropped (says .text)) (says .is)
 
 pub log-one : {log : File} {es fs : List Event} → SaysLog log es → SaysLog log fs → es ≡ fs
-log-one {es = es} {fs = fs} (is, ok) (is', ok') = logs.text-one 2 es fs ok ok' (bytes-one (sym is ∙ is'))
+log-one {es = es} {fs = fs} says says' =
+    value-one (log-out 2) (log-whole 2) es fs (sym (says .is) ∙ says' .is) (says .writable) (says' .writable) (says .said) (says' .said)
 
 -- ---- what is shown
 

@@ -11,7 +11,6 @@ pub mod After
 pub mod Read
 pub mod Took
 pub mod Many
-pub mod Small
 pub mod Lines
 pub mod Promises
 pub mod LinesRead

@@ -10,11 +10,12 @@ pub data Slot : Type 0 where
   exactly : ℕ → Slot
   digit : ℕ → Slot
 
--- the value of a byte as a hexadecimal digit, and 16 where it is none. The one place that says which digits are read.
+-- the value of a byte as a hexadecimal digit, small or capital, and 16 where it is none. The one place that says which digits are read.
 unfoldable pub digitValue : ℕ → ℕ
-digitValue b = cond (ltb b 48) 16 (cond (ltb b 58) (b - 48) (cond (ltb b 97) 16 (cond (ltb b 103) (b - 87) 16)))
+digitValue b =
+    cond (ltb b 48) 16 (cond (ltb b 58) (b - 48) (cond (ltb b 65) 16 (cond (ltb b 71) (b - 55) (cond (ltb b 97) 16 (cond (ltb b 103) (b - 87) 16)))))
 
--- the digit that is written
+-- the digit that is written: a small one
 unfoldable pub digitByte : ℕ → ℕ
 digitByte v = cond (ltb v 10) (v + 48) (v + 87)
 

@@ -19,7 +19,7 @@ digit-back v h = by-test (ltb v 10) refl
     by-test true e = let l = ltb-true v 10 e in rw (le-ltb (v + 48) 48 (omega arith), lt-ltb (v + 48) 58 (omega arith)) (omega arith)
     by-test false e =
         let l = ltb-false v 10 e in
-        rw (le-ltb (v + 87) 48 (omega arith), le-ltb (v + 87) 58 (omega arith), le-ltb (v + 87) 97 (omega arith), lt-ltb (v + 87) 103 (omega arith)) (omega arith)
+        rw (le-ltb (v + 87) 48 (omega arith), le-ltb (v + 87) 58 (omega arith), le-ltb (v + 87) 65 (omega arith), le-ltb (v + 87) 71 (omega arith), le-ltb (v + 87) 97 (omega arith), lt-ltb (v + 87) 103 (omega arith)) (omega arith)
 
 pub written-fits : (t : Slot) → admits t (written t) ≡ true
 unfolding admits written

@@ -36,7 +36,7 @@ fn byte_at(text: &[u8], at: usize) -> u8
     if at < text.len() { text[at] } else { 0 }
 }
 
-// The value of a hexadecimal digit, and 16 of any other byte.
+// The value of a hexadecimal digit, small or capital, and 16 of any other byte.
 fn digit_value(b: u8) -> u8
     ensures { λ r. ⌜ r ≡ digitValue b ⌝ }
 {
@@ -45,6 +45,12 @@ fn digit_value(b: u8) -> u8
     }
     if b < 58 {
         return b - 48;
+    }
+    if b < 65 {
+        return 16;
+    }
+    if b < 71 {
+        return b - 55;
     }
     if b < 97 {
         return 16;
