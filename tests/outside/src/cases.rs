@@ -300,6 +300,51 @@ fn far(dice: &mut Dice) -> Files {
     files(&plant, rule, &log)
 }
 
+/// The bytes of a text that stand behind a `=`, up to the end of that value.
+fn values(text: &[u8]) -> Vec<usize> {
+    let mut inside = false;
+    let mut found = Vec::new();
+    for (at, byte) in text.iter().enumerate() {
+        inside = inside && !b" \n".contains(byte);
+        if inside {
+            found.push(at);
+        }
+        inside = inside || *byte == b'=';
+    }
+    found
+}
+
+/// Digits as a neighbour's tool writes them: capital ones, also mixed with small ones in one number; now and then a byte beside the digits among them, or a capital in a key.
+fn capitals(dice: &mut Dice) -> Files {
+    let states = *dice.pick(&[4, 7, 12, 33, 64]);
+    let length = dice.from(1, 12);
+    let (plant, rule, log) = loop {
+        let drawn = good(dice, states, 2, length);
+        if drawn.0.props > 3 {
+            break drawn;
+        }
+    };
+    let mut files = files(&plant, &rule, &log);
+    for file in [&mut files.plant, &mut files.log] {
+        let share = *dice.pick(&[20, 60, 100]);
+        let text = bytes(file);
+        let digits = values(text);
+        for at in &digits {
+            if dice.chance(share) {
+                text[*at].make_ascii_uppercase();
+            }
+        }
+        if dice.chance(20) {
+            text[*dice.pick(&digits)] = *dice.pick(b"/:@G[`g{");
+        }
+        if dice.chance(10) {
+            let at = dice.below(text.len());
+            text[at].make_ascii_uppercase();
+        }
+    }
+    files
+}
+
 fn damaged_plant(dice: &mut Dice) -> Files {
     let states = *dice.pick(&[1, 2, 3, 9, 10, 11, 63, 64]);
     let (mut plant, rule, log) = good(dice, states, 1, 2);
@@ -337,7 +382,7 @@ fn damaged_plant(dice: &mut Dice) -> Files {
             upper.iter().for_each(|i| text[*i].make_ascii_uppercase());
         }
         5 => {}
-        _ => damage(dice, text, b"0123456789abcdefABCDEF=\n\r xlnj"),
+        _ => damage(dice, text, b"0123456789abcdefgABCDEFG@=\n\r xlnj"),
     }
     files
 }
@@ -405,7 +450,7 @@ fn damaged_log(dice: &mut Dice) -> Files {
     if dice.chance(15) {
         text.pop();
     } else if dice.chance(60) {
-        damage(dice, text, b"0123456789abcdefABF= \n\rsevalnw");
+        damage(dice, text, b"0123456789abcdefgABFG= \n\rsevalnw");
     }
     files
 }
@@ -581,7 +626,7 @@ pub const GIVEN: &[(&str, &str, &str, &str)] = &[
 
 /// The families of cases, and in how many ways (as `refusals` tells them) their texts must be refused at least, or the family tries too little.
 pub const FAMILIES: &[(&str, usize)] = &[
-    ("given by the paper", 4), ("plain", 1), ("small", 1), ("chains", 1), ("large", 1), ("far", 1), ("damaged plant", 3), ("damaged rule", 3),
+    ("given by the paper", 4), ("plain", 1), ("small", 1), ("chains", 1), ("large", 1), ("far", 1), ("capitals", 4), ("damaged plant", 3), ("damaged rule", 3),
     ("rule at limits", 4), ("damaged log", 3), ("sizes", 8), ("odd files", 15), ("several damaged", 99),
 ];
 
@@ -593,7 +638,8 @@ pub fn case(seed: u64, number: usize) -> Case {
     }
     let mut dice = Dice::new(seed, number as u64);
     let (kind, files) = match number % 40 {
-        0..=6 => ("plain", plain(&mut dice)),
+        0..=4 => ("plain", plain(&mut dice)),
+        5 | 6 => ("capitals", capitals(&mut dice)),
         7..=10 => ("small", small(&mut dice)),
         11..=15 => ("chains", chains(&mut dice)),
         16..=19 => ("damaged plant", damaged_plant(&mut dice)),

@@ -1,7 +1,7 @@
 //! Logs: lines of 20 bytes.
 
 use crate::faults::{self, Fault};
-use crate::plant::hex;
+use crate::plant::{hex, is_digit, is_known, one_case};
 use crate::Refusal;
 
 #[derive(Clone, Copy, Debug, PartialEq)]
@@ -15,14 +15,15 @@ const LINE: &[u8] = b"see=## val=## new=@\n";
 
 fn fits(form: u8, byte: u8) -> bool {
     match form {
-        b'#' => byte.is_ascii_digit() || (b'a'..=b'f').contains(&byte) || (faults::is(Fault::Capitals) && (b'A'..=b'F').contains(&byte)),
+        b'#' => is_digit(byte) && !(faults::is(Fault::CapitalsInTablesAlone) && byte.is_ascii_uppercase()),
         b'@' => byte == b'0' || byte == b'1',
-        _ => byte == form,
+        _ => is_known(byte, form),
     }
 }
 
 pub fn read(text: &[u8]) -> Result<Vec<Event>, Refusal> {
     let good = text.iter().zip(LINE.iter().cycle()).take_while(|(byte, form)| fits(**form, **byte)).count();
+    let good = one_case(&text[..good], |i| LINE[i % 20] == b'#');
     let open = good == text.len() && good % 20 == 19 && faults::is(Fault::LogLineOpen);
     if (good < text.len() || good % 20 != 0) && !open {
         return Err(Refusal { number: 12, place: good });
@@ -61,7 +62,9 @@ mod tests {
         assert_eq!(place("see=03 val=01 new=0"), 19);
         assert_eq!(place("see=03 val=01 new=2\n"), 18);
         assert_eq!(place("see=03 val=01 new=0\nx"), 20);
-        assert_eq!(place("see=0A val=01 new=0\n"), 5);
+        assert_eq!(read(b"see=0A val=01 new=0\n").unwrap()[0].see, 10);
+        assert_eq!(place("see=0G val=01 new=0\n"), 5);
+        assert_eq!(place("see=03 Val=01 new=0\n"), 7);
         assert_eq!(place("see=03 val=01 new=0\r\n"), 19);
     }
 }

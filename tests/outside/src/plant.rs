@@ -51,17 +51,50 @@ fn all_forms() -> Vec<Form> {
 
 thread_local! { static FORMS: Vec<Form> = all_forms(); }
 
-fn is_digit(byte: u8) -> bool {
-    byte.is_ascii_digit() || (b'a'..=b'f').contains(&byte) || (faults::is(Fault::Capitals) && (b'A'..=b'F').contains(&byte))
+/// Capital and small digits are read alike.
+pub fn is_digit(byte: u8) -> bool {
+    let letters = if faults::is(Fault::DigitG) { 7 } else { 6 };
+    let capital = if faults::is(Fault::DigitAt) { b'@' } else { b'A' };
+    byte.is_ascii_digit() || (b'a'..b'a' + letters).contains(&byte) || (!faults::is(Fault::CapitalsRefused) && (capital..b'A' + letters).contains(&byte))
+}
+
+/// A byte that the form gives.
+pub fn is_known(byte: u8, known: u8) -> bool {
+    byte == known || (faults::is(Fault::CapitalsInKeys) && byte.to_ascii_lowercase() == known)
+}
+
+/// The mistaken reader's last byte: before the first letter of the other case in a number, whose digits stand where `in_number` says so.
+pub fn one_case(text: &[u8], in_number: impl Fn(usize) -> bool) -> usize {
+    let mut first = None;
+    let mixed = (0..text.len()).find(|i| {
+        let letter = text[*i].is_ascii_alphabetic();
+        if !in_number(*i) {
+            first = None;
+        } else if letter && first.is_none() {
+            first = Some(text[*i].is_ascii_uppercase());
+        }
+        letter && first.map_or(false, |upper| upper != text[*i].is_ascii_uppercase())
+    });
+    if faults::is(Fault::OneCaseInNumber) { mixed.unwrap_or(text.len()) } else { text.len() }
 }
 
 /// How many bytes of the text follow the form.
 fn follows(text: &[u8], form: &[u8]) -> usize {
-    text.iter().zip(form).take_while(|(t, f)| if **f == DIGIT { is_digit(**t) } else { t == f }).count()
+    let good = text.iter().zip(form).take_while(|(t, f)| if **f == DIGIT { is_digit(**t) } else { is_known(**t, **f) }).count();
+    one_case(&text[..good], |i| form[i] == DIGIT)
+}
+
+fn value(digit: u8) -> u64 {
+    let value = match digit {
+        b'0'..=b'9' => digit - b'0',
+        b'a'..=b'z' => digit - b'a' + 10,
+        _ => digit + 10 - b'A' + faults::is(Fault::CapitalsOneMore) as u8,
+    };
+    value as u64
 }
 
 pub fn hex(digits: &[u8]) -> u64 {
-    digits.iter().fold(0, |n, d| n * 16 + (*d as char).to_digit(16).expect("a digit") as u64)
+    digits.iter().fold(0, |n: u64, d| (n << 4).wrapping_add(value(*d)))
 }
 
 fn fill(form: &Form, text: &[u8]) -> Plant {
@@ -203,7 +236,24 @@ mod tests {
         assert_eq!(place("props=1\nstates=640"), (3, 17));
         assert_eq!(place("props=1\nstates=06"), (3, 15));
         assert_eq!(place("props=1\nstates=6"), (3, 16));
-        assert_eq!(place("props=1\nstates=1\nstart=000000000000000F"), (3, 38));
+        assert_eq!(place("props=A\n"), (3, 6));
+        assert_eq!(place("props=1\nstates=1a\n"), (3, 16));
+        assert_eq!(place("props=1\nstates=1\nstart=000000000000000F"), (3, 39));
+        assert_eq!(place("props=1\nstates=1\nstart=000000000000000G"), (3, 38));
+        assert_eq!(place("props=1\nstates=1\nstart=000000000000000@"), (3, 38));
+        assert_eq!(place("props=1\nstates=1\nstart=000000000000000`"), (3, 38));
+        assert_eq!(place("props=1\nstates=1\nStart=0000000000000001"), (3, 17));
+    }
+
+    #[test]
+    fn digits_are_small_or_capital() {
+        assert_eq!(hex(b"aBcDeF09"), 0xabcdef09);
+        let mut plant = plant_w();
+        plant.states = 8;
+        plant.label = vec![0; 8];
+        plant.next = vec![0xab; 8];
+        let text = String::from_utf8(plant.text()).unwrap();
+        assert_eq!(read(text.replace("=00000000000000ab", "=00000000000000Ab").as_bytes()), Ok(plant));
     }
 
     #[test]
