@@ -1,16 +1,19 @@
 -- What is told of a rule's nodes is its printed text.
-use Prim.Native.Nat.{ℕ, zero, suc, _+_, _%_, _≤_}
+use Prim.Native.Nat.{ℕ, zero, suc, _+_, _%_, _≤_, _<_}
 use mathlib.Core.Path.{_≡_, refl, sym, ap, _∙_}
 use mathlib.Core.List.{List, [], _∷_, _++_}
 use native.Mathlib.Omega.{arith}
 use Rattle.meaning.specs.Formula.{Formula, never, always, prop, neg, next, finally, globally, until, release, and, or, implies, size}
 use Rattle.syntax.specs.declared.Op.{Op}
 use Rattle.syntax.specs.declared.Op.the-variants.{False, True, Prop, Not, Next, Finally, Globally, Until, Release, And, Or, Implies}
-use Rattle.syntax.specs.Grammar.{names}
+use mathlib.Core.Bool.{Bool, true, false, cond}
+use borrow.Author.Tests.{lt-leb, le-leb}
+use Rattle.syntax.specs.Grammar.{names, spell}
 use Rattle.syntax.specs.Postfix.{postfix, sides}
 use Rattle.syntax.specs.Print.{inside, print, Below}
 use Rattle.syntax.proofs.Complete.{Ev, later, both, map}
 use Rattle.syntax.proofs.Printed.{length-inside}
+use Rattle.syntax.proofs.Lexing.{by-digits, spelt-one, spelt-two}
 use lib.ListN.{length, drop, take, getD}
 use lib.Seq.{take-suc}
 use Rattle.syntax.specs.Value.{blank, opsOf, ruleOf, held}
@@ -18,7 +21,7 @@ use Rattle.syntax.proofs.Values.{held-is, full-value}
 use Rattle.syntax.specs.declared.Node.{Node}
 use Rattle.syntax.specs.declared.Rule.{Rule}
 use Rattle.printer.specs.declared.Spot.{Spot}
-use Rattle.printer.specs.Tell.{word, tell, share, shares, back, onto, Shows, Wrote, Told, Prints}
+use Rattle.printer.specs.Tell.{wide, ten, last, first, word, width, tell, share, shares, back, onto, Shows, Wrote, Told, Prints}
 use Rattle.printer.proofs.Trees.{tell-leaf, tell-one, tell-two}
 
 onto-append : (os ps r : List Op) → onto (os ++ ps) r ≡ onto ps (onto os r)
@@ -51,11 +54,25 @@ two o e f a b r p q =
     ∙ ap (λ l. record { text = inside (tell n (l .rest) .text) (word o) (l .text); rest = tell n (l .rest) .rest }) y
     ∙ ap (λ l. record { text = inside (l .text) (word o) (print b); rest = l .rest }) x))
 
+-- a proposition's word is its name
+name-word : (k : ℕ) → k < names → word (Prop k) ≡ 112 ∷ spell k
+name-word k h = by-digits {P = λ k. word (Prop k) ≡ 112 ∷ spell k} one-digit two-digits k h
+  where
+    one-digit : (k : ℕ) → k < 10 → word (Prop k) ≡ 112 ∷ spell k
+    one-digit k l =
+        let e : k % names % 10 ≡ k = omega arith in
+        rw (spelt-one k l, lt-leb 10 (k % names) (omega arith), e)
+
+    two-digits : (k : ℕ) → 10 + k < names → word (Prop (10 + k)) ≡ 112 ∷ spell (10 + k)
+    two-digits k l =
+        let e : (10 + k) % names % 10 ≡ k = omega arith in
+        rw (spelt-two k l, le-leb 10 ((10 + k) % names) (omega arith), e)
+
 pub told-print : (f : Formula) → Below names f → (r : List Op) → Tells f (onto (postfix f) r) r
 unfolding print postfix onto Below
 told-print never h r = later (0, λ n _. tell-leaf False r n refl)
 told-print always h r = later (0, λ n _. tell-leaf True r n refl)
-told-print (prop k) h r = later (0, λ n _. tell-leaf (Prop k) r n refl ∙ (let e : k % names ≡ k = omega arith in ap (λ d. record { text = 112 ∷ (48 + d) ∷ []; rest = r }) e))
+told-print (prop k) h r = later (0, λ n _. tell-leaf (Prop k) r n refl ∙ ap (λ t. record { text = t; rest = r }) (name-word k h))
 told-print (neg a) h r = one Not refl a r (told-print a h r)
 told-print (next a) h r = one Next refl a r (told-print a h r)
 told-print (finally a) h r = one Finally refl a r (told-print a h r)
@@ -70,7 +87,11 @@ told-print (implies a b) h r = two Implies (λ e. omega arith) (λ e. omega arit
 pub share-few : (o : Op) → share o ≤ 4
 share-few False = omega arith
 share-few True = omega arith
-share-few (Prop k) = omega arith
+share-few (Prop k) = by-test (ten (Prop k))
+  where
+    by-test : (b : Bool) → 1 + cond b 2 1 + 0 ≤ 4
+    by-test true = omega arith
+    by-test false = omega arith
 share-few Not = omega arith
 share-few Next = omega arith
 share-few Finally = omega arith
@@ -100,20 +121,30 @@ unfolding shares onto
 shares-onto [] r = omega arith
 shares-onto (o ∷ os) r = omega (arith, shares-onto os (o ∷ r))
 
-brought : (f : Formula) → shares (postfix f) ≡ length (print f)
-unfolding shares postfix print
-brought never = refl
-brought always = refl
-brought (prop k) = refl
-brought (neg a) = omega (arith, shares-append (postfix a) (Not ∷ []), brought a)
-brought (next a) = omega (arith, shares-append (postfix a) (Next ∷ []), brought a)
-brought (finally a) = omega (arith, shares-append (postfix a) (Finally ∷ []), brought a)
-brought (globally a) = omega (arith, shares-append (postfix a) (Globally ∷ []), brought a)
-brought (until a b) = omega (arith, shares-append (postfix a) (postfix b ++ Until ∷ []), shares-append (postfix b) (Until ∷ []), brought a, brought b, length-inside (print a) (85 ∷ []) (print b))
-brought (release a b) = omega (arith, shares-append (postfix a) (postfix b ++ Release ∷ []), shares-append (postfix b) (Release ∷ []), brought a, brought b, length-inside (print a) (82 ∷ []) (print b))
-brought (and a b) = omega (arith, shares-append (postfix a) (postfix b ++ And ∷ []), shares-append (postfix b) (And ∷ []), brought a, brought b, length-inside (print a) (38 ∷ []) (print b))
-brought (or a b) = omega (arith, shares-append (postfix a) (postfix b ++ Or ∷ []), shares-append (postfix b) (Or ∷ []), brought a, brought b, length-inside (print a) (124 ∷ []) (print b))
-brought (implies a b) = omega (arith, shares-append (postfix a) (postfix b ++ Implies ∷ []), shares-append (postfix b) (Implies ∷ []), brought a, brought b, length-inside (print a) (45 ∷ 62 ∷ []) (print b))
+-- a word has its width
+word-long : (o : Op) → length (word o) ≡ width o
+word-long o = by-tests (wide o) (ten o)
+  where
+    by-tests : (x y : Bool) → length (cond x (first o ∷ cond y (49 ∷ last o ∷ []) (last o ∷ [])) (cond y (49 ∷ last o ∷ []) (last o ∷ []))) ≡ cond x 1 0 + cond y 2 1
+    by-tests true true = refl
+    by-tests true false = refl
+    by-tests false true = refl
+    by-tests false false = refl
+
+brought : (f : Formula) → Below names f → shares (postfix f) ≡ length (print f)
+unfolding shares postfix print Below
+brought never h = refl
+brought always h = refl
+brought (prop k) h = omega (arith, word-long (Prop k), ap length (name-word k h))
+brought (neg a) h = omega (arith, shares-append (postfix a) (Not ∷ []), brought a h)
+brought (next a) h = omega (arith, shares-append (postfix a) (Next ∷ []), brought a h)
+brought (finally a) h = omega (arith, shares-append (postfix a) (Finally ∷ []), brought a h)
+brought (globally a) h = omega (arith, shares-append (postfix a) (Globally ∷ []), brought a h)
+brought (until a b) h = omega (arith, shares-append (postfix a) (postfix b ++ Until ∷ []), shares-append (postfix b) (Until ∷ []), brought a (h .0), brought b (h .1), length-inside (print a) (85 ∷ []) (print b))
+brought (release a b) h = omega (arith, shares-append (postfix a) (postfix b ++ Release ∷ []), shares-append (postfix b) (Release ∷ []), brought a (h .0), brought b (h .1), length-inside (print a) (82 ∷ []) (print b))
+brought (and a b) h = omega (arith, shares-append (postfix a) (postfix b ++ And ∷ []), shares-append (postfix b) (And ∷ []), brought a (h .0), brought b (h .1), length-inside (print a) (38 ∷ []) (print b))
+brought (or a b) h = omega (arith, shares-append (postfix a) (postfix b ++ Or ∷ []), shares-append (postfix b) (Or ∷ []), brought a (h .0), brought b (h .1), length-inside (print a) (124 ∷ []) (print b))
+brought (implies a b) h = omega (arith, shares-append (postfix a) (postfix b ++ Implies ∷ []), shares-append (postfix b) (Implies ∷ []), brought a (h .0), brought b (h .1), length-inside (print a) (45 ∷ 62 ∷ []) (print b))
 
 -- the nodes before k backwards are the first k nodes, the last one first
 back-ops : (ns : List Node) (k : ℕ) → k ≤ length ns → back ns k ≡ onto (opsOf (take k ns)) []
@@ -132,11 +163,11 @@ module _ {rule : Rule} {f : Formula} (x : Shows rule f) where
   back-is = ap (λ r. back (r .nodes) (r .len)) (x .is) ∙ back-ops (ruleOf f .nodes) (size f) (omega (arith, x .small, full-value f (x .small))) ∙ ap (λ os. onto os []) (held-is f)
 
   pub room-is : shares (held rule) ≡ length (print f)
-  room-is = ap (λ r. shares (held r)) (x .is) ∙ ap shares (held-is f) ∙ brought f
+  room-is = ap (λ r. shares (held r)) (x .is) ∙ ap shares (held-is f) ∙ brought f (x .below)
 
   pub same-room : shares (back (rule .nodes) (rule .len)) ≡ shares (held rule)
   unfolding shares
-  same-room = ap shares back-is ∙ shares-onto (postfix f) [] ∙ (let e = brought f in let g = room-is in omega arith)
+  same-room = ap shares back-is ∙ shares-onto (postfix f) [] ∙ (let e = brought f (x .below) in let g = room-is in omega arith)
 
 nothing-left : (ns : List Node) (k : ℕ) → back ns k ≡ [] → shares (back ns k) ≡ 0
 unfolding shares

@@ -8,7 +8,7 @@ use lib.ListN.{length, take, drop, set, length-append, length-drop, take-append-
 use lib.Seq.{set-split, take-append-le, take-take, drop-at, length-take-le}
 use mathlib.Core.Bool.{Bool, true, false, cond}
 use Rattle.syntax.specs.declared.Op.{Op}
-use Rattle.printer.specs.Tell.{wide, last, first, Wrote, Wording}
+use Rattle.printer.specs.Tell.{wide, ten, last, first, endWidth, Wrote, Ending, Wording}
 
 pub wrote-byte : (a : List ℕ) (i v : ℕ) → i < length a → Wrote a i (i + 1) (v ∷ []) (set a i v)
 wrote-byte a i v h = record { is = rw add-one (set-split a i v h); span = refl; fits = omega arith }
@@ -35,22 +35,31 @@ wrote-before {a} {lo} {m} {hi} {t} {u} {b} {c} p q =
       fits = p .fits;
     }
 
--- a node's word
-pub some-width : (b : Bool) → 1 ≤ cond b 2 1
-some-width true = omega arith
-some-width false = omega arith
+-- ---- a node's word
 
+pub some-end : (o : Op) → 1 ≤ endWidth o
+some-end o = by-test (ten o)
+  where
+    by-test : (b : Bool) → 1 ≤ cond b 2 1
+    by-test true = omega arith
+    by-test false = omega arith
+
+-- its end: of one byte, or of two
 module _ (o : Op) {a b : List ℕ} {near hi v : ℕ} (e : v ≡ last o) (w : Wrote a near (near + 1) (v ∷ []) b) (h : near + 1 ≡ hi) where
+  pub end-one : ten o ≡ false → Ending a hi o near b
+  end-one t = record { begins = rw t h; wrote = rw (t, ← e) (wrote-to h w) }
+
+  pub end-two : ten o ≡ true → {far : ℕ} {c : List ℕ} → Wrote b far (far + 1) (49 ∷ []) c → far + 1 ≡ near → Ending a hi o far c
+  end-two t {far} x g = record { begins = rw t (omega arith); wrote = rw (t, ← e) (wrote-before (wrote-to h w) (wrote-to g x)) }
+
+-- the word is its end, or has a byte before it
+module _ (o : Op) {a b : List ℕ} {near hi : ℕ} (w : Ending a hi o near b) where
   pub word-narrow : wide o ≡ false → Wording a hi o near b
-  word-narrow t =
-      record {
-        begins = rw t h;
-        wrote = rw (t, ← e) (wrote-to h w);
-      }
+  word-narrow t = record { begins = rw t (omega (arith, w .begins)); wrote = rw t (w .wrote) }
 
   pub word-wide : wide o ≡ true → {far u : ℕ} {c : List ℕ} → u ≡ first o → Wrote b far (far + 1) (u ∷ []) c → far + 1 ≡ near → Wording a hi o far c
   word-wide t {far} f x g =
       record {
-        begins = rw t (omega arith);
-        wrote = rw (t, ← e, ← f) (wrote-before (wrote-to h w) (wrote-to g x));
+        begins = rw t (omega (arith, w .begins));
+        wrote = rw (t, ← f) (wrote-before (w .wrote) (wrote-to g x));
       }

@@ -3,7 +3,7 @@ use Prim.Native.Nat.{ℕ, zero, suc, _+_, _%_, _≤_, _<_}
 use mathlib.Core.Path.{_≡_}
 use mathlib.Core.List.{List, [], _∷_, _++_}
 use mathlib.Core.Bool.{Bool, true, false, cond}
-use lib.Dec.{eqb}
+use lib.Dec.{eqb, leb}
 use lib.ListN.{length, take, drop, getD}
 use Rattle.syntax.specs.declared.Op.{Op}
 use Rattle.syntax.specs.declared.Op.the-variants.{False, True, Prop, Not, Next, Finally, Globally, Until, Release, And, Or, Implies}
@@ -16,7 +16,7 @@ use Rattle.syntax.specs.Print.{inside, print, Below}
 use Rattle.syntax.specs.Value.{blank, ruleOf}
 use Rattle.printer.specs.declared.Spot.{Spot}
 
--- whether a node's own word has two bytes
+-- whether a node's own word has a byte before its number or its last byte
 abbrev pub wide : Op → Bool
 wide False = false
 wide True = false
@@ -35,7 +35,7 @@ wide Implies = true
 abbrev pub last : Op → ℕ
 last False = 48
 last True = 49
-last (Prop k) = 48 + k % names
+last (Prop k) = 48 + k % names % 10
 last Not = 33
 last Next = 88
 last Finally = 70
@@ -46,7 +46,22 @@ last And = 38
 last Or = 124
 last Implies = 62
 
--- the first byte of a word of two
+-- whether the word ends with a number of two digits
+abbrev pub ten : Op → Bool
+ten False = false
+ten True = false
+ten (Prop k) = leb 10 (k % names)
+ten Not = false
+ten Next = false
+ten Finally = false
+ten Globally = false
+ten Until = false
+ten Release = false
+ten And = false
+ten Or = false
+ten Implies = false
+
+-- the first byte of a word of more bytes
 abbrev pub first : Op → ℕ
 first False = 112
 first True = 112
@@ -61,13 +76,20 @@ first And = 112
 first Or = 112
 first Implies = 45
 
+-- its end: the last byte, and before it the 1 of a number of two digits
+abbrev pub ending : Op → List ℕ
+ending o = cond (ten o) (49 ∷ last o ∷ []) (last o ∷ [])
+
 -- a node's own word
 abbrev pub word : Op → List ℕ
-word o = cond (wide o) (first o ∷ last o ∷ []) (last o ∷ [])
+word o = cond (wide o) (first o ∷ ending o) (ending o)
 
--- and how many bytes it has
+-- and how many bytes its end and the word have
+abbrev pub endWidth : Op → ℕ
+endWidth o = cond (ten o) 2 1
+
 abbrev pub width : Op → ℕ
-width o = cond (wide o) 2 1
+width o = cond (wide o) 1 0 + endWidth o
 
 -- the nodes before k, the last one first
 unfoldable pub back : List Node → ℕ → List Op
@@ -95,6 +117,11 @@ pub record Wrote (a : List ℕ) (lo hi : ℕ) (t b : List ℕ) : Type 0 where
   pub is : b ≡ take lo a ++ (t ++ drop hi a)
   pub span : lo + length t ≡ hi
   pub fits : hi ≤ length a
+
+-- the end of a node's word, written so that it ends at hi
+pub record Ending (a : List ℕ) (hi : ℕ) (o : Op) (r : ℕ) (b : List ℕ) : Type 0 where
+  pub begins : r + endWidth o ≡ hi
+  pub wrote : Wrote a r hi (ending o) b
 
 -- the word of a node, written so that it ends at hi
 pub record Wording (a : List ℕ) (hi : ℕ) (o : Op) (r : ℕ) (b : List ℕ) : Type 0 where

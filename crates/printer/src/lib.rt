@@ -6,9 +6,10 @@ ghost use Prim.Native.Nat.{_+_, _≤_, _<_};
 ghost use lib.ListN.{length};
 ghost use mathlib.Core.List.{[], _∷_};
 ghost use Rattle.syntax.specs.Value.{held};
-ghost use Rattle.printer.specs.Tell.{wide, width, last, first, Wrote, Wording, Room, Told, share, shares, Printable, Prints};
+ghost use Rattle.syntax.specs.declared.Op.the-variants.{Prop};
+ghost use Rattle.printer.specs.Tell.{wide, ten, width, last, first, Wrote, Ending, Wording, Room, Told, share, shares, Printable, Prints};
 
-// Whether a node's own word has two bytes.
+// Whether a node's own word has a byte before its number or its last byte.
 fn is_wide(op: Op) -> bool
     ensures { λ r. ⌜ r ≡ wide op ⌝ }
 {
@@ -35,7 +36,7 @@ fn last_of(op: Op) -> u8
     match op {
         Op::False => b'0',
         Op::True => b'1',
-        Op::Prop(k) => b'0' + k % 8,
+        Op::Prop(k) => b'0' + ((k as usize) % Rule::NAMES % 10) as u8,
         Op::Not => b'!',
         Op::Next => b'X',
         Op::Finally => b'F',
@@ -48,7 +49,27 @@ fn last_of(op: Op) -> u8
     }
 }
 
-// The first byte of a word of two.
+// Whether a node's own word ends with a number of two digits.
+fn is_ten(op: Op) -> bool
+    ensures { λ r. ⌜ r ≡ ten op ⌝ }
+{
+    match op {
+        Op::False => false,
+        Op::True => false,
+        Op::Prop(k) => 10 <= (k as usize) % Rule::NAMES,
+        Op::Not => false,
+        Op::Next => false,
+        Op::Finally => false,
+        Op::Globally => false,
+        Op::Until => false,
+        Op::Release => false,
+        Op::And => false,
+        Op::Or => false,
+        Op::Implies => false,
+    }
+}
+
+// The first byte of a word of more bytes.
 fn first_of(op: Op) -> u8
     ensures { λ r. ⌜ r ≡ first op ⌝ }
 {
@@ -76,15 +97,30 @@ fn put_byte(buffer: &mut [u8], at: usize, b: u8)
     buffer[at] = b;
 }
 
+// Writes the last byte of a node's own word, and before it the 1 of a number of two digits, so that it ends at `end`; returns where this begins.
+fn put_ending(buffer: &mut [u8], end: usize, op: Op) -> usize
+    requires { ⌜ (width op ≤ end) × (end ≤ length (now buffer)) ⌝ }
+    ensures { λ r. ⌜ Ending (now (buffer .entry)) end op r (now (buffer .exit)) ⌝ }
+{
+    let near = end - 1;
+    put_byte(buffer, near, last_of(op));
+    if is_ten(op) {
+        let far = end - 2;
+        put_byte(buffer, far, b'1');
+        far
+    } else {
+        near
+    }
+}
+
 // Writes a node's own word so that it ends at `end`, and returns where it begins.
 fn put_word(buffer: &mut [u8], end: usize, op: Op) -> usize
     requires { ⌜ (width op ≤ end) × (end ≤ length (now buffer)) ⌝ }
     ensures { λ r. ⌜ Wording (now (buffer .entry)) end op r (now (buffer .exit)) ⌝ }
 {
-    let near = end - 1;
-    put_byte(buffer, near, last_of(op));
+    let near = put_ending(buffer, end, op);
     if is_wide(op) {
-        let far = end - 2;
+        let far = near - 1;
         put_byte(buffer, far, first_of(op));
         far
     } else {
@@ -135,6 +171,17 @@ fn put_tree(rule: Rule, buffer: &mut [u8], node: usize, end: usize) -> Spot
     }
 }
 
+// How many bytes a name has.
+fn name_share(k: u8) -> usize
+    ensures { λ r. ⌜ r ≡ width (Prop k) ⌝ }
+{
+    if (k as usize) % Rule::NAMES < 10 {
+        2
+    } else {
+        3
+    }
+}
+
 // How many bytes a node brings: its word, and its parentheses.
 fn share_of(op: Op) -> usize
     ensures { λ r. ⌜ r ≡ share op ⌝ }
@@ -142,7 +189,7 @@ fn share_of(op: Op) -> usize
     match op {
         Op::False => 1,
         Op::True => 1,
-        Op::Prop(_) => 2,
+        Op::Prop(k) => name_share(k),
         Op::Not => 1,
         Op::Next => 1,
         Op::Finally => 1,

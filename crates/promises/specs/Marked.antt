@@ -4,10 +4,10 @@ use mathlib.Core.Path.{_≡_, refl}
 use mathlib.Core.List.{List, [], _∷_, map}
 use Rattle.meaning.specs.Formula.{size}
 use Rattle.model.specs.Marked.{marked}
-use Rattle.syntax.specs.Bytes.{signOf, leafOf, lexSign, lex}
+use Rattle.syntax.specs.Bytes.{signOf, leafOf, lexSign, lex, nameOf, nameBytes}
 use Rattle.syntax.specs.Postfix.{postfix}
 use Rattle.syntax.specs.Reader.{head, tail, read, more, parse}
-use Rattle.syntax.specs.Scan.{closes, scanFrom, scan}
+use Rattle.syntax.specs.Scan.{closes, scanFrom, scan, named, teen}
 use Rattle.syntax.specs.Value.{ruleOf, count, opsOf, nodesOf}
 use Rattle.reader.specs.Draft.{written}
 use Rattle.rule.specs.Reading.{unknown, unknownAt, accepted, textRead}
@@ -32,5 +32,5 @@ texts =
     ∷ []
 
 pub texts-read : map (λ s. textRead s 2) texts ≡ map (λ r. accepted (ruleOf (r .rule))) marked
-unfolding size signOf leafOf lexSign lex postfix head tail read more parse closes scanFrom scan count opsOf nodesOf written unknown unknownAt
+unfolding size signOf leafOf nameOf nameBytes lexSign lex postfix head tail read more parse closes named teen scanFrom scan count opsOf nodesOf written unknown unknownAt
 texts-read = refl

@@ -1,17 +1,17 @@
 -- The end of a rule's text: a text of the grammar has no LF, so it is what is left where one final LF is dropped.
-use Prim.Native.Nat.{ℕ, zero, suc, _+_, _-_, _<_}
+use Prim.Native.Nat.{ℕ, zero, suc, _+_, _-_, _/_, _%_, _<_}
 use native.Mathlib.Omega.{arith}
 use mathlib.Core.Path.{_≡_, refl, sym, ap, _∙_}
 use mathlib.Core.Bool.{Bool, true, false, cond}
 use mathlib.Core.List.{List, [], _∷_, _++_}
 use mathlib.Core.Logic.{_⊎_, inl, inr}
-use lib.Dec.{eqb}
+use lib.Dec.{eqb, ltb}
 use borrow.Author.Tests.{eqb-true, ne-eqb}
 use lib.ListN.{length, getD, take, length-append}
 use lib.Seq.{take-suc, take-length, take-append-seam, getD-append-seam}
 use Rattle.meaning.specs.Formula.{Formula}
 use Rattle.syntax.specs.declared.Token.{Token}
-use Rattle.syntax.specs.Grammar.{Spelt, sp-false, sp-true, sp-prop, sp-not, sp-next, sp-finally, sp-globally, sp-until, sp-release, sp-and, sp-or, sp-arrow, sp-open, sp-close, Spells, end, space, token, SaidBy}
+use Rattle.syntax.specs.Grammar.{spell, Spelt, sp-false, sp-true, sp-prop, sp-not, sp-next, sp-finally, sp-globally, sp-until, sp-release, sp-and, sp-or, sp-arrow, sp-open, sp-close, Spells, end, space, token, SaidBy}
 use Rattle.report.specs.Text.{lf}
 use Rattle.transcript.specs.End.{endOf}
 
@@ -26,10 +26,19 @@ behind x not-lf {s} h = record { other = λ k. go k }
     go zero e = not-lf e
     go (suc k) e = h .other k e
 
+-- nor is one of a name's
+in-name : (k : ℕ) {s : List ℕ} → NoLf s → NoLf (spell k ++ s)
+unfolding spell
+in-name k {s} h = by-size (ltb k 10)
+  where
+    by-size : (b : Bool) → NoLf (cond b ((48 + k) ∷ []) ((48 + k / 10) ∷ (48 + k % 10) ∷ []) ++ s)
+    by-size true = behind (48 + k) (λ e. omega arith) h
+    by-size false = behind (48 + k / 10) (λ e. omega arith) (behind (48 + k % 10) (λ e. omega arith) h)
+
 in-token : {t : Token} {b s : List ℕ} → Spelt t b → NoLf s → NoLf (b ++ s)
 in-token sp-false h = behind 48 (λ e. omega arith) h
 in-token sp-true h = behind 49 (λ e. omega arith) h
-in-token (sp-prop k l) h = behind 112 (λ e. omega arith) (behind (48 + k) (λ e. omega arith) h)
+in-token (sp-prop k l) h = behind 112 (λ e. omega arith) (in-name k h)
 in-token sp-not h = behind 33 (λ e. omega arith) h
 in-token sp-next h = behind 88 (λ e. omega arith) h
 in-token sp-finally h = behind 70 (λ e. omega arith) h

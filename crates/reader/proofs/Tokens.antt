@@ -1,16 +1,18 @@
 -- The tokens from a place on, byte by byte.
-use Prim.Native.Nat.{ℕ, _+_, _≤_, _<_}
-use mathlib.Core.Path.{_≡_, refl, sym, ap, subst, _∙_}
+use Prim.Native.Nat.{ℕ, zero, suc, _+_, _≤_, _<_}
+use mathlib.Core.Path.{_≡_, refl, sym, ap, ap₂, subst, _∙_}
 use mathlib.Core.List.{List, [], _∷_}
 use mathlib.Core.Bool.{true, false}
 use native.Mathlib.Omega.{arith}
 use lib.ListN.{length, getD, drop}
+use lib.Seq.{drop-drop}
+use Rattle.syntax.specs.declared.Name.{Name}
 use Rattle.syntax.specs.declared.Op.the-variants.{Prop}
 use Rattle.syntax.specs.declared.Token.{Token}
 use Rattle.syntax.specs.declared.Token.the-variants.{Leaf, End}
 use Rattle.syntax.specs.declared.Sign.{Sign}
 use Rattle.syntax.specs.declared.Sign.the-variants.{Blank, Digit, Letter, Before, Between, Dash, Angle, Left, Right, Other}
-use Rattle.syntax.specs.Bytes.{signOf, digitOf, gap, lexSign, lex, tokens}
+use Rattle.syntax.specs.Bytes.{signOf, gap, nameBytes, lexSign, lex, lexName, tokens, NameAt}
 use Rattle.syntax.specs.Reader.{number, opOf, head, tail}
 use Rattle.syntax.proofs.Places.{byte, at-end}
 use Rattle.syntax.proofs.Lexing.{Byte, byte-of}
@@ -19,12 +21,12 @@ use Rattle.reader.specs.declared.Mark.{Mark}
 
 none-left : (s : List ℕ) (at : ℕ) → at ≤ length s → length s ≤ at → tokens s at ≡ []
 unfolding lex
-none-left s at h g = ap (lex false) (at-end s at h g)
+none-left s at h g = ap (lex 0) (at-end s at h g)
 
 -- the token that a byte of the sign k begins
-pub split : (s : List ℕ) (at : ℕ) → at < length s → {k : Sign} → signOf (getD s at 0) ≡ k → tokens s at ≡ lexSign k (tokens s (at + 1)) (lex true (drop (at + 1) s))
+pub split : (s : List ℕ) (at : ℕ) → at < length s → {k : Sign} → signOf (getD s at 0) ≡ k → tokens s at ≡ lexSign k (tokens s (at + 1)) (lexName (drop (at + 1) s))
 unfolding lex
-split s at h e = ap (lex false) (byte s at h) ∙ ap (λ k. lexSign k (tokens s (at + 1)) (lex true (drop (at + 1) s))) e
+split s at h e = ap (lex 0) (byte s at h) ∙ ap (λ k. lexSign k (tokens s (at + 1)) (lexName (drop (at + 1) s))) e
 
 -- a byte that begins no token is passed
 pass : (k : Sign) → gap k ≡ true → (ts us : List Token) → lexSign k ts us ≡ ts
@@ -57,28 +59,23 @@ alone Other e n ts us = cc
 pub passed : (s : List ℕ) (at : ℕ) → at < length s → gap (signOf (getD s at 0)) ≡ true → tokens s at ≡ tokens s (at + 1)
 passed s at h g = split s at h refl ∙ pass (signOf (getD s at 0)) g _ _
 
--- the mark of a proposition whose digit is of the sign k
-pub digit-there : (s : List ℕ) (at : ℕ) → at < length s → {k : Sign} → k ≡ signOf (getD s at 0) → {n : ℕ} → n ≡ digitOf k → (m : Mark) → m ≡ markOf (Leaf (Prop n)) (at + 1) → Lettered s at m
+-- the lexer behind a name
+lex-drop : (n : ℕ) (s : List ℕ) → lex n s ≡ lex 0 (drop n s)
 unfolding lex
-digit-there s at h e f m g =
-    rw g
-    record {
-      number-is = refl;
-      split = ap (lex true) (byte s at h) ∙ ap (λ n. Leaf (Prop n) ∷ tokens s (at + 1)) (sym (f ∙ ap digitOf e));
-      onward = omega arith;
-      within = omega arith;
-    }
+lex-drop zero s = refl
+lex-drop (suc n) [] = refl
+lex-drop (suc n) (b ∷ s) = lex-drop n s
 
--- and of one whose digit is missing
-pub digit-missing : (s : List ℕ) (at : ℕ) → at ≤ length s → length s ≤ at → (m : Mark) → m ≡ markOf (Leaf (Prop 0)) at → Lettered s at m
-unfolding lex
-digit-missing s at h le m g =
+-- the mark of a proposition whose name was found
+pub name-there : (s : List ℕ) (at : ℕ) (n : Name) → NameAt s at n → (m : Mark) → m ≡ markOf (Leaf (Prop (n .number))) (n .next) → Lettered s at m
+name-there s at n h m g =
     rw g
     record {
       number-is = refl;
-      split = ap (lex true) (at-end s at h le) ∙ ap (λ ts. Leaf (Prop 0) ∷ ts) (sym (none-left s at h le));
-      onward = omega arith;
-      within = h;
+      split = ap₂ (λ k ts. Leaf (Prop k) ∷ ts) (sym (h .number-is))
+          (lex-drop (nameBytes (drop at s)) (drop at s) ∙ ap (lex 0) (drop-drop (nameBytes (drop at s)) at s ∙ ap (λ i. drop i s) (sym (h .next-is))));
+      onward = omega (arith, h .next-is);
+      within = h .within;
     }
 
 module _ (s : List ℕ) (from at : ℕ) (sk : Skipped s from at) where

@@ -2,7 +2,7 @@
 use Prim.Native.Nat.{ℕ, _+_, _-_, _*_, _≤_, _<_}
 use mathlib.Core.Path.{_≡_}
 use mathlib.Core.List.{List, [], _∷_}
-use mathlib.Core.Bool.{true, false, cond}
+use mathlib.Core.Bool.{false, cond}
 use lib.Dec.{ltb}
 use lib.ListN.{set, getD, length, drop}
 use Rattle.syntax.specs.declared.Op.{Op}
@@ -12,7 +12,7 @@ use Rattle.syntax.specs.declared.Token.{Token}
 use Rattle.syntax.specs.declared.Token.the-variants.{Leaf, Prefix, Infix, Open, Close, End}
 use Rattle.syntax.specs.declared.Sign.{Sign}
 use Rattle.syntax.specs.declared.Sign.the-variants.{Blank, Digit, Letter, Before, Between, Dash, Angle, Left, Right, Other}
-use Rattle.syntax.specs.Bytes.{signOf, gap, leafOf, lex, tokens}
+use Rattle.syntax.specs.Bytes.{signOf, gap, leafOf, lexName, tokens}
 use Rattle.syntax.specs.Reader.{Got, number, opOf, head, tail}
 use Rattle.reader.specs.declared.Mark.{Mark}
 use Rattle.reader.specs.declared.Draft.{Draft}
@@ -50,10 +50,10 @@ tokenOf Other = End
 abbrev pub markOf : Token → ℕ → Mark
 markOf t next = record { number = number t; op = opOf t; next = next }
 
--- m is a proposition whose digit stands at `at`
+-- m is the proposition whose name goes on at `at`, behind its `p`
 pub record Lettered (s : List ℕ) (at : ℕ) (m : Mark) : Type 0 where
   pub number-is : m .number ≡ 5
-  pub split : lex true (drop at s) ≡ Leaf (m .op) ∷ tokens s (m .next)
+  pub split : lexName (drop at s) ≡ Leaf (m .op) ∷ tokens s (m .next)
   pub onward : at ≤ m .next
   pub within : m .next ≤ length s
 

@@ -177,17 +177,14 @@ fn mark_of(token: Token, next: usize) -> Mark
     }
 }
 
-// The proposition whose digit stands at `at`.
+// The proposition whose name goes on at `at`, behind its `p`.
 fn letter_at(text: &[u8], at: usize) -> Mark
     requires { ⌜ at ≤ length (now text) ⌝ }
     ensures { λ r. ⌜ Lettered (now (text .entry)) at r ⌝ }
 {
-    if at < text.len() {
-        let k = syntax::digit_of(syntax::sign_of(text[at]));
-        mark_of(Token::Leaf(Op::Prop(k)), at + 1)
-    } else {
-        mark_of(Token::Leaf(Op::Prop(0)), at)
-    }
+    let name = syntax::name_at(text, at);
+    let number = name.number;
+    mark_of(Token::Leaf(Op::Prop(number)), name.next)
 }
 
 // The next token from `from` on.

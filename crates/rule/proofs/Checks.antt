@@ -13,7 +13,7 @@ use Rattle.plant.specs.declared.Plant.{Plant}
 use Rattle.plant.specs.Table.{tableOutcome}
 use Rattle.syntax.specs.declared.Rule.{Rule}
 use Rattle.syntax.specs.declared.Scan.the-variants.{Good, Bad}
-use Rattle.syntax.specs.Bytes.{signOf, digitOf}
+use Rattle.syntax.specs.Bytes.{nameOf}
 use Rattle.syntax.specs.Reader.{parse}
 use Rattle.syntax.specs.Scan.{scan}
 use Rattle.syntax.specs.Value.{emptyRule, held, count}
@@ -28,15 +28,15 @@ module _ (q : ℕ) (s : List ℕ) (i : ℕ) where
   unfolding unknown
   unknown-end h g = sym (ap (unknown q (getD s i 0)) (at-end s (i + 1) (omega arith) g))
 
-  unknown-next : i + 1 < length s → unknown q (getD s i 0) (drop (i + 1) s) ≡ (eqb (getD s i 0) 112 && leb q (digitOf (signOf (getD s (i + 1) 0))))
+  unknown-next : i + 1 < length s → unknown q (getD s i 0) (drop (i + 1) s) ≡ (eqb (getD s i 0) 112 && leb q (nameOf (drop (i + 1) s)))
   unfolding unknown
-  unknown-next h = ap (unknown q (getD s i 0)) (byte s (i + 1) h)
+  unknown-next h = let e = byte s (i + 1) h in ap (unknown q (getD s i 0)) e ∙ ap (λ t. eqb (getD s i 0) 112 && leb q (nameOf t)) (sym e)
 
   pub unknown-other : i + 1 < length s → (getD s i 0 ≡ 112 → ⊥) → false ≡ unknown q (getD s i 0) (drop (i + 1) s)
-  unknown-other h e = sym (unknown-next h ∙ ap (λ b. b && leb q (digitOf (signOf (getD s (i + 1) 0)))) (ne-eqb _ _ e))
+  unknown-other h e = sym (unknown-next h ∙ ap (λ b. b && leb q (nameOf (drop (i + 1) s))) (ne-eqb _ _ e))
 
-  pub unknown-digit : i + 1 < length s → getD s i 0 ≡ 112 → leb q (digitOf (signOf (getD s (i + 1) 0))) ≡ unknown q (getD s i 0) (drop (i + 1) s)
-  unknown-digit h e = sym (unknown-next h ∙ ap (λ b. b && leb q (digitOf (signOf (getD s (i + 1) 0)))) (eq-eqb _ _ e))
+  pub unknown-name : i + 1 < length s → getD s i 0 ≡ 112 → leb q (nameOf (drop (i + 1) s)) ≡ unknown q (getD s i 0) (drop (i + 1) s)
+  unknown-name h e = sym (unknown-next h ∙ ap (λ b. b && leb q (nameOf (drop (i + 1) s))) (eq-eqb _ _ e))
 
   pub unknown-turn : i < length s → unknownAt q i (drop i s) ≡ cond (unknown q (getD s i 0) (drop (i + 1) s)) (At i) (unknownAt q (i + 1) (drop (i + 1) s))
   unfolding unknownAt

@@ -1,24 +1,25 @@
 -- Refusal 6: no `p` is unknown exactly where each proposition of the rule is below the count; and the place found is that of the first one.
 use Prim.{Unit}
 use Prim.Native.Nat.{ℕ, zero, suc, _+_, _≤_, _<_}
-use mathlib.Core.Path.{_≡_, refl, sym, ap, subst, _∙_}
+use mathlib.Core.Path.{_≡_, refl, sym, ap, ap₂, subst, _∙_}
 use mathlib.Core.Logic.{_↔_}
 use mathlib.Core.List.{List, [], _∷_, _++_}
 use mathlib.Core.Bool.{Bool, true, false, _&&_, cond}
 use native.Mathlib.Omega.{arith}
 use borrow.Author.Tests.{ne-eqb, eq-eqb, eqb-true, lt-leb, leb-true, leb-false}
 use lib.Dec.{T, eqb, leb}
+use lib.ListN.{length, getD, drop, length-append}
+use lib.Seq.{drop-nil}
 use Rattle.meaning.specs.Formula.{Formula}
 use Rattle.syntax.specs.declared.Op.{Op}
 use Rattle.syntax.specs.declared.Op.the-variants.{False, True, Prop, Not, Next, Finally, Globally, Until, Release, And, Or, Implies}
 use Rattle.syntax.specs.declared.Token.{Token}
 use Rattle.syntax.specs.declared.Token.the-variants.{Leaf, Prefix, Infix, Open, Close, End}
-use Rattle.syntax.specs.declared.Sign.{Sign}
-use Rattle.syntax.specs.declared.Sign.the-variants.{Blank, Digit, Letter, Before, Between, Dash, Angle, Left, Right, Other}
-use Rattle.syntax.specs.Grammar.{names, sp-false, sp-true, sp-prop, sp-not, sp-next, sp-finally, sp-globally, sp-until, sp-release, sp-and, sp-or, sp-arrow, sp-open, sp-close, Spells, end, space, token, Level, Side, Atom, is-false, is-true, is-prop, Unary, is-not, is-next, is-finally, is-globally, Binary, is-implies, is-or, is-and, is-until, is-release, Text, atom, group, unary, lefts, rights, tight, SaidBy, Names, Unknown}
-use Rattle.syntax.specs.Bytes.{signOf, digitOf}
+use Rattle.syntax.specs.Grammar.{names, spell, sp-false, sp-true, sp-prop, sp-not, sp-next, sp-finally, sp-globally, sp-until, sp-release, sp-and, sp-or, sp-arrow, sp-open, sp-close, Spells, end, space, token, Level, Side, Atom, is-false, is-true, is-prop, Unary, is-not, is-next, is-finally, is-globally, Binary, is-implies, is-or, is-and, is-until, is-release, Text, atom, group, unary, lefts, rights, tight, SaidBy, Stands, Names, Unknown}
+use Rattle.syntax.specs.Bytes.{nameOf}
 use Rattle.syntax.specs.Print.{Below}
-use Rattle.syntax.proofs.Lexing.{sign-digit, Byte, byte-of, both-true}
+use Rattle.syntax.proofs.Lexing.{by-digits, spelt-one, spelt-two, Ends, name-is, Apart, off-ends, text-apart, both-true}
+use Rattle.syntax.proofs.Named.{Begins, spell-some, name-stands, name-longest}
 use Rattle.rule.specs.declared.Found.{Found}
 use Rattle.rule.specs.declared.Found.the-variants.{At, Nowhere}
 use Rattle.rule.specs.Reading.{unknown, unknownAt}
@@ -110,18 +111,28 @@ module _ (q : ℕ) where
   small : (b : ℕ) → (b ≡ 112 → ⊥) → (s : List ℕ) → unknown q b s ≡ false
   unfolding unknown
   small b h [] = refl
-  small b h (d ∷ s) = ap (λ x. x && leb q (digitOf (signOf d))) (ne-eqb b 112 h)
+  small b h (d ∷ s) = ap (λ x. x && leb q (nameOf (d ∷ s))) (ne-eqb b 112 h)
 
   over-byte : (i b : ℕ) → (b ≡ 112 → ⊥) → (s : List ℕ) → unknownAt q i (b ∷ s) ≡ unknownAt q (i + 1) s
   unfolding unknownAt
   over-byte i b h s = ap (λ x. cond x (At i) (unknownAt q (i + 1) s)) (small b h s)
 
   -- a proposition is the answer, or is passed
-  at-prop : (i k : ℕ) → k < names → (s : List ℕ) → unknownAt q i (112 ∷ (48 + k) ∷ s) ≡ cond (leb q k) (At i) (unknownAt q (i + 1 + 1) s)
+  at-prop : (i k : ℕ) → k < names → (s : List ℕ) → Ends s → unknownAt q i (112 ∷ (spell k ++ s)) ≡ cond (leb q k) (At i) (unknownAt q (i + 1 + length (spell k)) s)
   unfolding unknownAt unknown
-  at-prop i k h s =
-      ap (λ d. cond (leb q (digitOf d)) (At i) (unknownAt q (i + 1) ((48 + k) ∷ s))) (sign-digit k h)
-      ∙ ap (cond (leb q k) (At i)) (over-byte (i + 1) (48 + k) (λ e. omega arith) s)
+  at-prop i k h s e = by-digits {P = λ k. unknownAt q i (112 ∷ (spell k ++ s)) ≡ cond (leb q k) (At i) (unknownAt q (i + 1 + length (spell k)) s)} one two k h
+    where
+      one : (k : ℕ) → k < 10 → unknownAt q i (112 ∷ (spell k ++ s)) ≡ cond (leb q k) (At i) (unknownAt q (i + 1 + length (spell k)) s)
+      one k l =
+          let n : nameOf ((48 + k) ∷ s) ≡ k = rw (spelt-one k l) at (name-is k (omega arith) s (λ o. e) .0) in
+          rw (spelt-one k l, n) (ap (cond (leb q k) (At i)) (over-byte (i + 1) (48 + k) (λ e. omega arith) s))
+
+      two : (k : ℕ) → 10 + k < names → unknownAt q i (112 ∷ (spell (10 + k) ++ s)) ≡ cond (leb q (10 + k)) (At i) (unknownAt q (i + 1 + length (spell (10 + k))) s)
+      two k l =
+          let n : nameOf (49 ∷ (48 + k) ∷ s) ≡ 10 + k = rw (spelt-two k l) at (name-is (10 + k) l s (λ o. e) .0) in
+          let d : i + 1 + 1 + 1 ≡ i + 1 + 2 = omega arith in
+          rw (spelt-two k l, n)
+          (ap (cond (leb q (10 + k)) (At i)) (over-byte (i + 1) 49 (λ e. omega arith) ((48 + k) ∷ s) ∙ over-byte (i + 1 + 1) (48 + k) (λ e. omega arith) s ∙ ap (λ j. unknownAt q j s) d))
 
   -- the same answer, with a token before
   passed : {x y : Found} {A : Type 0} → x ≡ y → (y ≡ Nowhere) ↔ A → (x ≡ Nowhere) ↔ (Unit {0} × A)
@@ -137,70 +148,78 @@ module _ (q : ℕ) where
   byte-passed : (b : ℕ) → (b ≡ 112 → ⊥) → (i : ℕ) (s : List ℕ) {A : Type 0} → (unknownAt q (i + 1) s ≡ Nowhere) ↔ A → (unknownAt q i (b ∷ s) ≡ Nowhere) ↔ (Unit {0} × A)
   byte-passed b h i s a = passed (over-byte i b h s) a
 
-  none-exactly : {ts : List Token} {s : List ℕ} → Spells ts s → (i : ℕ) → (unknownAt q i s ≡ Nowhere) ↔ All q ts
-  unfolding All unknownAt
-  none-exactly end i = (λ h. tt, λ h. refl)
-  none-exactly (space {s = s} r) i = let e = over-byte i 32 (λ e. omega arith) s in let a = none-exactly r (i + 1) in (λ h. a .0 (sym e ∙ h), λ h. e ∙ a .1 h)
-  none-exactly (token {s = s} sp-false r) i = byte-passed 48 (λ e. omega arith) i s (none-exactly r (i + 1))
-  none-exactly (token {s = s} sp-true r) i = byte-passed 49 (λ e. omega arith) i s (none-exactly r (i + 1))
-  none-exactly (token {s = s} sp-not r) i = byte-passed 33 (λ e. omega arith) i s (none-exactly r (i + 1))
-  none-exactly (token {s = s} sp-next r) i = byte-passed 88 (λ e. omega arith) i s (none-exactly r (i + 1))
-  none-exactly (token {s = s} sp-finally r) i = byte-passed 70 (λ e. omega arith) i s (none-exactly r (i + 1))
-  none-exactly (token {s = s} sp-globally r) i = byte-passed 71 (λ e. omega arith) i s (none-exactly r (i + 1))
-  none-exactly (token {s = s} sp-until r) i = byte-passed 85 (λ e. omega arith) i s (none-exactly r (i + 1))
-  none-exactly (token {s = s} sp-release r) i = byte-passed 82 (λ e. omega arith) i s (none-exactly r (i + 1))
-  none-exactly (token {s = s} sp-and r) i = byte-passed 38 (λ e. omega arith) i s (none-exactly r (i + 1))
-  none-exactly (token {s = s} sp-or r) i = byte-passed 124 (λ e. omega arith) i s (none-exactly r (i + 1))
-  none-exactly (token {s = s} sp-open r) i = byte-passed 40 (λ e. omega arith) i s (none-exactly r (i + 1))
-  none-exactly (token {s = s} sp-close r) i = byte-passed 41 (λ e. omega arith) i s (none-exactly r (i + 1))
-  none-exactly (token {s = s} sp-arrow r) i = passed (over-byte i 45 (λ e. omega arith) (62 ∷ s) ∙ over-byte (i + 1) 62 (λ e. omega arith) s) (none-exactly r (i + 1 + 1))
-  none-exactly (token {s = s} (sp-prop k h) r) i = met i k (at-prop i k h s) (none-exactly r (i + 1 + 1))
+  none-exactly : {ts : List Token} {s : List ℕ} → Apart ts → Spells ts s → (i : ℕ) → (unknownAt q i s ≡ Nowhere) ↔ All q ts
+  unfolding All unknownAt Apart
+  none-exactly a end i = (λ h. tt, λ h. refl)
+  none-exactly a (space {s = s} r) i = let e = over-byte i 32 (λ e. omega arith) s in let x = none-exactly a r (i + 1) in (λ h. x .0 (sym e ∙ h), λ h. e ∙ x .1 h)
+  none-exactly a (token {s = s} sp-false r) i = byte-passed 48 (λ e. omega arith) i s (none-exactly (a .1) r (i + 1))
+  none-exactly a (token {s = s} sp-true r) i = byte-passed 49 (λ e. omega arith) i s (none-exactly (a .1) r (i + 1))
+  none-exactly a (token {s = s} sp-not r) i = byte-passed 33 (λ e. omega arith) i s (none-exactly a r (i + 1))
+  none-exactly a (token {s = s} sp-next r) i = byte-passed 88 (λ e. omega arith) i s (none-exactly a r (i + 1))
+  none-exactly a (token {s = s} sp-finally r) i = byte-passed 70 (λ e. omega arith) i s (none-exactly a r (i + 1))
+  none-exactly a (token {s = s} sp-globally r) i = byte-passed 71 (λ e. omega arith) i s (none-exactly a r (i + 1))
+  none-exactly a (token {s = s} sp-until r) i = byte-passed 85 (λ e. omega arith) i s (none-exactly a r (i + 1))
+  none-exactly a (token {s = s} sp-release r) i = byte-passed 82 (λ e. omega arith) i s (none-exactly a r (i + 1))
+  none-exactly a (token {s = s} sp-and r) i = byte-passed 38 (λ e. omega arith) i s (none-exactly a r (i + 1))
+  none-exactly a (token {s = s} sp-or r) i = byte-passed 124 (λ e. omega arith) i s (none-exactly a r (i + 1))
+  none-exactly a (token {s = s} sp-open r) i = byte-passed 40 (λ e. omega arith) i s (none-exactly a r (i + 1))
+  none-exactly a (token {s = s} sp-close r) i = byte-passed 41 (λ e. omega arith) i s (none-exactly a r (i + 1))
+  none-exactly a (token {s = s} sp-arrow r) i = passed (over-byte i 45 (λ e. omega arith) (62 ∷ s) ∙ over-byte (i + 1) 62 (λ e. omega arith) s) (none-exactly a r (i + 1 + 1))
+  none-exactly a (token {s = s} (sp-prop k h) r) i = met i k (at-prop i k h s (off-ends (a .0) r)) (none-exactly (a .1) r (i + 1 + length (spell k)))
 
   pub below-exactly : {f : Formula} {s : List ℕ} → SaidBy f s → (unknownAt q 0 s ≡ Nowhere) ↔ Below q f
   below-exactly r =
-      let a = none-exactly (r .spells) 0 in
+      let a = none-exactly (text-apart (r .text)) (r .spells) 0 in
       let b = text-below (r .text) in
       (λ e. b .0 (a .0 e), λ h. a .1 (b .1 h))
-
-  -- a digit that is not below q, where q is some: a proposition's
-  digit-is : 1 ≤ q → (x : Sign) → leb q (digitOf x) ≡ true → x ≡ Digit (digitOf x)
-  digit-is some (Digit k) h = refl
-  digit-is some Blank h = absurd (omega (arith, leb-true q 0 h))
-  digit-is some Letter h = absurd (omega (arith, leb-true q 0 h))
-  digit-is some (Before o) h = absurd (omega (arith, leb-true q 0 h))
-  digit-is some (Between o) h = absurd (omega (arith, leb-true q 0 h))
-  digit-is some Dash h = absurd (omega (arith, leb-true q 0 h))
-  digit-is some Angle h = absurd (omega (arith, leb-true q 0 h))
-  digit-is some Left h = absurd (omega (arith, leb-true q 0 h))
-  digit-is some Right h = absurd (omega (arith, leb-true q 0 h))
-  digit-is some Other h = absurd (omega (arith, leb-true q 0 h))
 
   -- what the test of a byte says
   met-here : 1 ≤ q → (b : ℕ) (s : List ℕ) → unknown q b s ≡ true → (j : ℕ) × Names (b ∷ s) 0 j × (q ≤ j)
   unfolding unknown
   met-here some b [] h = absurd (subst T (sym h) tt)
   met-here some b (d ∷ s) h =
-      let p = both-true (eqb b 112) (leb q (digitOf (signOf d))) h in
-      let x : Byte (Digit (digitOf (signOf d))) d = rw (digit-is some (signOf d) (p .1)) at (byte-of d) in
-      (digitOf (signOf d), record { named = x .1; within = omega arith; letter = eqb-true b 112 (p .0); digit = x .0 }, leb-true q (digitOf (signOf d)) (p .1))
+      let p = both-true (eqb b 112) (leb q (nameOf (d ∷ s))) h in
+      let l = leb-true q (nameOf (d ∷ s)) (p .1) in
+      (nameOf (d ∷ s), here (eqb-true b 112 (p .0)) (name-stands (d ∷ s) (omega arith)), l)
+    where
+      here : b ≡ 112 → Begins (d ∷ s) (nameOf (d ∷ s)) → Names (b ∷ d ∷ s) 0 (nameOf (d ∷ s))
+      here e (k, rest, f) =
+          record {
+            stands = (k, rest, ap₂ (λ x t. x ∷ t) e f);
+            longest = λ i (l, r, g). name-longest (d ∷ s) i (l, r, ap (drop 1) g);
+          }
+
+  -- the name that stands there is the one found
+  found : (b : ℕ) (s : List ℕ) (j : ℕ) → Names (b ∷ s) 0 j → (b ≡ 112) × (nameOf s ≡ j) × (1 ≤ length s)
+  found b s j n = by-stands (n .stands)
+    where
+      at-most : (m : ℕ) → nameOf s ≡ m → b ≡ 112 → nameOf s ≤ j
+      at-most zero e f = omega arith
+      at-most (suc m) e f = let (l, r, g) = name-stands s (omega arith) in n .longest (nameOf s) (l, r, ap₂ (λ x t. x ∷ t) f g)
+
+      by-stands : Stands (b ∷ s) 0 j → (b ≡ 112) × (nameOf s ≡ j) × (1 ≤ length s)
+      by-stands (l, rest, e) =
+          let b-is : b ≡ 112 = ap (λ t. getD t 0 0) e in
+          let s-is : s ≡ spell j ++ rest = ap (drop 1) e in
+          (b-is, omega (arith, name-longest s j (l, rest, s-is), at-most (nameOf s) refl b-is), omega (arith, ap length s-is, length-append (spell j) rest, spell-some j l))
 
   not-here : (b : ℕ) (s : List ℕ) → unknown q b s ≡ false → (j : ℕ) → Names (b ∷ s) 0 j → j < q
   unfolding unknown
-  not-here b [] h j n = let w = n .within in absurd (omega arith)
+  not-here b [] h j n = let (e, f, l) = found b [] j n in absurd (omega arith)
   not-here b (d ∷ s) h j n =
-      let e : leb q j ≡ false = sym (ap (λ x. x && leb q j) (eq-eqb b 112 (n .letter))) ∙ ap (λ x. eqb b 112 && leb q (digitOf x)) (sym (ap signOf (n .digit) ∙ sign-digit j (n .named))) ∙ h in
-      leb-false q j e
+      let (e, f, l) = found b (d ∷ s) j n in
+      leb-false q j (sym (rw (eq-eqb b 112 e, f)) ∙ h)
 
   later : (b : ℕ) (s : List ℕ) (k j : ℕ) → Names s k j → Names (b ∷ s) (suc k) j
-  later b s k j n = record { named = n .named; within = (let w = n .within in omega arith); letter = n .letter; digit = n .digit }
+  later b s k j n = record { stands = n .stands; longest = n .longest }
 
   sooner : (b : ℕ) (s : List ℕ) (k j : ℕ) → Names (b ∷ s) (suc k) j → Names s k j
-  sooner b s k j n = record { named = n .named; within = (let w = n .within in omega arith); letter = n .letter; digit = n .digit }
+  sooner b s k j n = record { stands = n .stands; longest = n .longest }
 
   -- where none is found, none is
   pub none-unknown : (s : List ℕ) (i : ℕ) → unknownAt q i s ≡ Nowhere → (k j : ℕ) → Names s k j → j < q
   unfolding unknownAt
-  none-unknown [] i h k j n = let w = n .within in absurd (omega arith)
+  none-unknown [] i h k j n = let (l, rest, e) = n .stands in absurd (omega (arith, ap length (sym (drop-nil k) ∙ e)))
   none-unknown (b ∷ s) i h k j n = go (unknown q b s) refl h k n (λ g m x. none-unknown s (i + 1) g m j x)
     where
       go : (t : Bool) → unknown q b s ≡ t → cond t (At i) (unknownAt q (i + 1) s) ≡ Nowhere → (m : ℕ) → Names (b ∷ s) m j

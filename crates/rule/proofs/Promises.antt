@@ -2,7 +2,7 @@
 -- What these mean is said here in 01's words: `syntax/specs/Grammar` says what a text of the grammar is (`SaidBy f s`: the rule f is said by the text s), `syntax/specs/Value` what a rule's
 -- value is (`ruleOf f`), `specs/Paper` what each refusal is given for (`Because`), and what it is for a text to be accepted (`Takes`).
 use Prim.Native.Nat.{ℕ, _≤_, _<_}
-use mathlib.Core.Path.{_≡_, sym, ap, subst, _∙_}
+use mathlib.Core.Path.{_≡_, refl, sym, ap, subst, _∙_}
 use mathlib.Core.Logic.{_↔_}
 use mathlib.Core.List.{List}
 use mathlib.Core.Bool.{Bool, true, false}
@@ -20,7 +20,7 @@ use Rattle.syntax.specs.Print.{print, Below}
 use Rattle.syntax.specs.Value.{ruleOf}
 use Rattle.syntax.proofs.OnePlace.{one-place, one-unknown}
 use Rattle.syntax.proofs.Parse.{one-rule}
-use Rattle.syntax.proofs.Printed.{printed, short, below-more}
+use Rattle.syntax.proofs.Printed.{printed, short, longest, below-more}
 use Rattle.rule.specs.declared.Printed.{Printed}
 use Rattle.rule.specs.declared.Printed.the-variants.{Text, Refused as NoText}
 use Rattle.rule.specs.Reading.{refusedAs, accepted, textRead, ruleRead}
@@ -70,7 +70,7 @@ module _ (p : Plant) (fair label next : List ℕ) where
   -- every rule of the grammar within the limits is printed as a text that reads back as its value
   pub reads-back : Beside p fair label next → (f : Formula) → Below (p .props) f → size f ≤ 32 → parts f ≤ 6 → ruleRead p fair label next (print f) ≡ accepted (ruleOf f)
   reads-back b f below small few =
-      let says = printed f (below-more (p .props) names (b .table .few-props) f below) in
+      let says = printed f (below-more (p .props) names (omega (arith, b .table .few-props)) f below) in
       answering.in-order p fair label next (print f) b ∙ reads-rule (p .props) (print f) (omega (arith, short f small)) says below small few
 
   -- and what any accepted text gives is such a rule's value: printed, it is read back as it is
@@ -81,13 +81,18 @@ module _ (p : Plant) (fair label next : List ℕ) where
       let v : RuleValue r (p .props) = record { formula = f; is = t .is; small = t .small; few = t .few; below = t .below } in
       ap (ruleRead p fair label next) (text-is v) ∙ reads-back (t .reads .beside) f (t .below) (t .small) (t .few) ∙ ap accepted (sym (t .is))
 
--- at most 93 bytes are printed
-pub at-most-93 : (r : Rule) (q : ℕ) → RuleValue r q → length (textOf r) ≤ 93
-at-most-93 r q v = let e = ap length (text-is v) in omega (arith, short (v .formula) (v .small))
+-- at most 109 bytes are printed, and for some value as many
+pub at-most-109 : (r : Rule) (q : ℕ) → RuleValue r q → length (textOf r) ≤ 109
+at-most-109 r q v = let e = ap length (text-is v) in omega (arith, short (v .formula) (v .small))
+
+pub some-109 : (r : Rule) × RuleValue r names × (length (textOf r) ≡ 109)
+some-109 =
+    let (f, s, p, b, l) = longest in
+    let v : RuleValue (ruleOf f) names = record { formula = f; is = refl; small = omega arith; few = omega arith; below = b } in (ruleOf f, v, ap length (text-is v) ∙ l)
 
 -- CHECKING A VALUE
 
--- for up to 8 propositions, a value is accepted exactly if some accepted text gives it
+-- for up to 16 propositions, a value is accepted exactly if some accepted text gives it
 pub given-exactly : (r : Rule) (q : ℕ) → length (r .nodes) ≡ 32 → 1 ≤ q → q ≤ names → (validOf r q ≡ true) ↔ ((s : List ℕ) × (textRead s q ≡ accepted r))
 given-exactly r q full some few =
     let e = valid-exactly r q full in
@@ -105,7 +110,7 @@ given-exactly r q full some few =
 
 -- for a value r (its array has 32 nodes) and a buffer that holds old
 module _ (r : Rule) (old : List ℕ) (full : length (r .nodes) ≡ 32) where
-  -- 9 exactly if no accepted text gives the value, for 8 propositions
+  -- 9 exactly if no accepted text gives the value, for 16 propositions
   pub nine-exactly : (printAnswer r old ≡ noPrint Value) ↔ ((s : List ℕ) → textRead s names ≡ accepted r → ⊥)
   nine-exactly = (λ e. go (printing r old full) e, λ h. answer-none r old full (λ v. (let g = given-exactly r names full (omega arith) (omega arith) .0 (valid-exactly r names full .1 v) in h (g .0) (g .1))) .0)
     where

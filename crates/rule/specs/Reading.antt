@@ -14,7 +14,7 @@ use Rattle.plant.specs.Table.{tableOutcome}
 use Rattle.syntax.specs.declared.Rule.{Rule}
 use Rattle.syntax.specs.declared.Scan.{Scan}
 use Rattle.syntax.specs.declared.Scan.the-variants.{Good, Bad}
-use Rattle.syntax.specs.Bytes.{signOf, digitOf}
+use Rattle.syntax.specs.Bytes.{nameOf}
 use Rattle.syntax.specs.Reader.{parse}
 use Rattle.syntax.specs.Scan.{scan}
 use Rattle.syntax.specs.Value.{emptyRule, held, count}
@@ -31,10 +31,10 @@ refusedAs k place = record { outcome = Refused (refusedAt k place); rule = empty
 abbrev pub accepted : Rule → RuleRead
 accepted r = record { outcome = Accepted; rule = r }
 
--- b is a `p` whose digit, the first byte of s, is not below q
+-- b is a `p` whose number, with which s begins, is not below q
 unfoldable pub unknown : ℕ → ℕ → List ℕ → Bool
 unknown q b [] = false
-unknown q b (d ∷ s) = eqb b 112 && leb q (digitOf (signOf d))
+unknown q b (d ∷ s) = eqb b 112 && leb q (nameOf (d ∷ s))
 
 -- the first such `p` of a text that stands from place i on
 unfoldable pub unknownAt : ℕ → ℕ → List ℕ → Found

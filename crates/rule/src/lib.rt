@@ -61,7 +61,7 @@ pub fn read_rule(plant: Plant, fair: &[u64], label: &[u16], next: &[u64], text: 
     }
 }
 
-// Whether the value is a rule's within the limits, with propositions below `props`. For 1 to 8 of them: whether some text gives it, which is check 9.
+// Whether the value is a rule's within the limits, with propositions below `props`. For 1 to 16 of them: whether some text gives it, which is check 9.
 pub fn is_valid(rule: Rule, props: usize) -> bool
     ensures { λ r. ⌜ r ≡ validOf rule props ⌝ }
 {
@@ -78,7 +78,7 @@ pub fn print_rule(rule: Rule, buffer: &mut [u8]) -> Printed
     ensures answer { λ r. ⌜ r ≡ printAnswer rule (now (buffer .entry)) ⌝ }
     ensures buffer { λ _. ⌜ now (buffer .exit) ≡ printBuffer rule (now (buffer .entry)) ⌝ }
 {
-    if is_valid(rule, Plant::PROPS) {
+    if is_valid(rule, Rule::NAMES) {
         if buffer.len() < printer::room_of(rule) {
             return Printed::Refused(Refusal::at(Kind::Room, 0));
         }

@@ -10,7 +10,7 @@ ghost use Prim.Native.Nat.{_+_, _<_};
 ghost use lib.ListN.{length, getD, drop};
 ghost use Rattle.rule.specs.Reading.{unknown, unknownAt, limited, named, textRead};
 
-// Whether a `p` stands at `at` whose digit is not below `props`.
+// Whether a `p` stands at `at` whose number is not below `props`.
 fn is_unknown(text: &[u8], at: usize, props: usize) -> bool
     requires { ⌜ at < length (now text) ⌝ }
     ensures { λ r. ⌜ r ≡ unknown props (getD (now (text .entry)) at 0) (drop (at + 1) (now (text .entry))) ⌝ }
@@ -22,8 +22,8 @@ fn is_unknown(text: &[u8], at: usize, props: usize) -> bool
     if text[at] != b'p' {
         return false;
     }
-    let digit = syntax::digit_of(syntax::sign_of(text[next])) as usize;
-    props <= digit
+    let name = syntax::name_at(text, next);
+    props <= name.number as usize
 }
 
 // The first such place.

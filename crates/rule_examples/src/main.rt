@@ -59,7 +59,7 @@ fn read(plant: Plant, name: &[u8], text: &[u8]) {
     let reading = rule::read_rule(plant, &fair[..0], &label, &next, text);
     let rule = reading.rule;
     let outcome = reading.outcome;
-    let mut buffer = [0u8; 93];
+    let mut buffer = [0u8; 109];
     match outcome {
         Outcome::Accepted => print(rule, &mut buffer),
         Outcome::Refused(refusal) => tell(refusal),
@@ -153,7 +153,7 @@ fn check(name: &[u8], rule: Rule, props: usize) {
     } else {
         io::write_all(STDOUT_FILENO, b"no rule, ");
     }
-    let mut buffer = [0u8; 93];
+    let mut buffer = [0u8; 109];
     print(rule, &mut buffer);
 }
 
@@ -163,7 +163,7 @@ fn values() {
     check(b"p1 for 1", value(1, Op::Prop(1), 1, Op::False), 1);
     check(b"p7 for 8", value(1, Op::Prop(7), 1, Op::False), 8);
     check(b"Prop(9) for 8", value(1, Op::Prop(9), 1, Op::False), 8);
-    check(b"Prop(9) for 10", value(1, Op::Prop(9), 1, Op::False), 10);
+    check(b"Prop(16) for 17", value(1, Op::Prop(16), 1, Op::False), 17);
 }
 
 // Values that are no rule's, and two that are made of several nodes.

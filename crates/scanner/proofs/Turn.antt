@@ -5,15 +5,14 @@ use mathlib.Core.Path.{_≡_, refl, sym, ap, _∙_}
 use mathlib.Core.List.{List}
 use native.Mathlib.Omega.{arith}
 use native.Mathlib.Numerals.{sub-one}
-use lib.Dec.{eqb, eqb·suc-zero}
 use lib.ListN.{length, getD, drop}
 use Rattle.syntax.specs.declared.Mode.the-variants.{Operator, Stuck}
 use Rattle.syntax.specs.declared.Move.{Move}
-use Rattle.syntax.specs.declared.Move.the-variants.{ToOperand, ToNumber, ToOperator, ToArrow, Opens, Closes, Stops}
+use Rattle.syntax.specs.declared.Move.the-variants.{ToOperand, ToNumber, ToTeen, ToOperator, ToArrow, Opens, Closes, Stops}
 use Rattle.syntax.specs.declared.State.{State}
 use Rattle.syntax.specs.declared.Scan.the-variants.{Bad}
 use Rattle.syntax.specs.Bytes.{signOf}
-use Rattle.syntax.specs.Scan.{at, lone, closes, moved, step, ends, dead, scanFrom}
+use Rattle.syntax.specs.Scan.{at, lone, closes, moved, step, dead, scanFrom}
 use Rattle.syntax.proofs.Places.{byte}
 
 pub lone-small : (k : ℕ) → k < 2 → ToOperator ≡ lone k
@@ -35,10 +34,6 @@ unfolding closes
 closes-one zero h = absurd (h refl)
 closes-one (suc d) h = ap (at Operator) (sub-one (suc d))
 
-pub ends-zero : (d : ℕ) → eqb d 0 ≡ ends Operator d
-ends-zero zero = refl
-ends-zero (suc d) = eqb·suc-zero d
-
 -- a byte opens one parenthesis at most
 shallow-close : (d : ℕ) → closes d .depth ≤ d + 1
 unfolding closes
@@ -48,6 +43,7 @@ shallow-close (suc d) = omega arith
 pub shallow : (d : ℕ) (m : Move) → moved d m .depth ≤ d + 1
 shallow d ToOperand = omega arith
 shallow d ToNumber = omega arith
+shallow d ToTeen = omega arith
 shallow d ToOperator = omega arith
 shallow d ToArrow = omega arith
 shallow d Opens = omega arith

@@ -6,7 +6,7 @@ use syntax::Sign;
 use syntax::State;
 ghost use mathlib.Core.Path.{_≡_};
 ghost use Prim.Native.Nat.{_<_};
-ghost use Rattle.syntax.specs.Scan.{lone, operand, digit, operator, angle, move, closes, moved, ends, dead, scan};
+ghost use Rattle.syntax.specs.Scan.{lone, operand, named, digit, teen, operator, angle, move, closes, moved, ends, dead, scan};
 
 // A digit that stands alone is 0 or 1.
 fn lone_digit(k: u8) -> Move
@@ -33,13 +33,24 @@ fn at_operand(sign: Sign) -> Move
     }
 }
 
-// The digit of a proposition is to come.
+// The first digit of a name: behind 1 another may come.
+fn first_digit(k: u8) -> Move
+    ensures { λ r. ⌜ r ≡ named k ⌝ }
+{
+    if k == 1 {
+        Move::ToTeen
+    } else {
+        Move::ToOperator
+    }
+}
+
+// The first digit of a name is to come.
 fn at_digit(sign: Sign) -> Move
     ensures { λ r. ⌜ r ≡ digit sign ⌝ }
 {
     match sign {
         Sign::Blank => Move::Stops,
-        Sign::Digit(_) => Move::ToOperator,
+        Sign::Digit(k) => first_digit(k),
         Sign::Letter => Move::Stops,
         Sign::Before(_) => Move::Stops,
         Sign::Between(_) => Move::Stops,
@@ -69,6 +80,17 @@ fn at_operator(sign: Sign) -> Move
     }
 }
 
+// Behind `p1`: the second digit of a name, or what follows a name.
+fn at_teen(sign: Sign) -> Move
+    ensures { λ r. ⌜ r ≡ teen sign ⌝ }
+{
+    if syntax::goes_on(sign) {
+        Move::ToOperator
+    } else {
+        at_operator(sign)
+    }
+}
+
 // The `>` of an arrow is to come.
 fn at_angle(sign: Sign) -> Move
     ensures { λ r. ⌜ r ≡ angle sign ⌝ }
@@ -94,6 +116,7 @@ fn move_of(mode: Mode, sign: Sign) -> Move
     match mode {
         Mode::Operand => at_operand(sign),
         Mode::Number => at_digit(sign),
+        Mode::Teen => at_teen(sign),
         Mode::Operator => at_operator(sign),
         Mode::Arrow => at_angle(sign),
         Mode::Stuck => Move::Stops,
@@ -131,6 +154,10 @@ fn state_after(depth: usize, by: Move) -> State
             mode: Mode::Number,
             depth,
         },
+        Move::ToTeen => State {
+            mode: Mode::Teen,
+            depth,
+        },
         Move::ToOperator => State {
             mode: Mode::Operator,
             depth,
@@ -159,6 +186,7 @@ fn is_dead(mode: Mode) -> bool
         Mode::Stuck => true,
         Mode::Operand => false,
         Mode::Number => false,
+        Mode::Teen => false,
         Mode::Operator => false,
         Mode::Arrow => false,
     }
@@ -170,6 +198,7 @@ fn may_end(mode: Mode, depth: usize) -> bool
 {
     match mode {
         Mode::Operator => depth == 0,
+        Mode::Teen => depth == 0,
         Mode::Operand => false,
         Mode::Number => false,
         Mode::Arrow => false,

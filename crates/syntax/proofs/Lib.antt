@@ -1,4 +1,5 @@
 pub mod Places
+pub mod Named
 pub mod Held
 pub mod Complete
 pub mod Lexing

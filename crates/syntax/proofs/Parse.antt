@@ -11,7 +11,7 @@ use Rattle.syntax.specs.declared.Token.{Token}
 use Rattle.syntax.specs.Grammar.{Spelt, sp-false, sp-true, sp-prop, sp-not, sp-next, sp-finally, sp-globally, sp-until, sp-release, sp-and, sp-or, sp-arrow, sp-open, sp-close, Spells, end, space, token, arrows, SaidBy}
 use Rattle.syntax.specs.Postfix.{postfix, decode}
 use Rattle.syntax.specs.Reader.{read, parse}
-use Rattle.syntax.proofs.Lexing.{lexed}
+use Rattle.syntax.proofs.Lexing.{lexed, text-apart}
 use Rattle.syntax.proofs.Complete.{reads}
 use Rattle.syntax.proofs.Stable.{height, stable}
 
@@ -43,7 +43,7 @@ unfolding parse height
 parsed {f} {s} r =
     let e = reads (r .text) in
     let n = 8 * length s + 6 in
-    ap (λ ts. read n arrows ts .out) (lexed (r .spells)) ∙ ap (λ g. g .out) (sym (stable arrows (r .tokens) n (e .0) (omega (arith, few-tokens (r .spells)))) ∙ e .1 (n + e .0) (omega arith))
+    ap (λ ts. read n arrows ts .out) (lexed (text-apart (r .text)) (r .spells)) ∙ ap (λ g. g .out) (sym (stable arrows (r .tokens) n (e .0) (omega (arith, few-tokens (r .spells)))) ∙ e .1 (n + e .0) (omega arith))
 
 -- from the postfix order the rule comes back
 decoded : (f : Formula) (os : List Op) (fs : List Formula) → decode (postfix f ++ os) fs ≡ decode os (f ∷ fs)

@@ -1,14 +1,16 @@
 -- A printed rule is a text that says the rule, so it reads back; and it is short.
-use Prim.Native.Nat.{ℕ, suc, _+_, _*_, _≤_}
-use mathlib.Core.Path.{_≡_}
+use Prim.Native.Nat.{ℕ, zero, suc, _+_, _*_, _/_, _%_, _≤_}
+use mathlib.Core.Path.{_≡_, refl}
+use mathlib.Core.Bool.{Bool, true, false, cond}
+use lib.Dec.{ltb}
 use mathlib.Core.List.{List, [], _∷_, _++_, append-assoc, append-nil}
 use native.Mathlib.Omega.{arith}
 use lib.ListN.{length, length-append}
-use Rattle.meaning.specs.Formula.{Formula, never, always, prop, neg, next, finally, globally, until, release, and, or, implies, size}
+use Rattle.meaning.specs.Formula.{Formula, never, always, prop, neg, next, finally, globally, until, release, and, or, implies, size, parts}
 use Rattle.syntax.specs.declared.Op.{Op}
 use Rattle.syntax.specs.declared.Token.{Token}
 use Rattle.syntax.specs.declared.Token.the-variants.{Leaf, Prefix, Infix}
-use Rattle.syntax.specs.Grammar.{names, Spelt, sp-false, sp-true, sp-prop, sp-not, sp-next, sp-finally, sp-globally, sp-until, sp-release, sp-and, sp-or, sp-arrow, sp-open, sp-close, Spells, end, space, token, Level, arrows, prefixes, tighter, Side, Atom, is-false, is-true, is-prop, Unary, is-not, is-next, is-finally, is-globally, Binary, is-implies, is-or, is-and, is-until, is-release, Text, atom, group, unary, tight, SaidBy}
+use Rattle.syntax.specs.Grammar.{names, spell, Spelt, sp-false, sp-true, sp-prop, sp-not, sp-next, sp-finally, sp-globally, sp-until, sp-release, sp-and, sp-or, sp-arrow, sp-open, sp-close, Spells, end, space, token, Level, arrows, prefixes, tighter, Side, Atom, is-false, is-true, is-prop, Unary, is-not, is-next, is-finally, is-globally, Binary, is-implies, is-or, is-and, is-until, is-release, Text, atom, group, unary, tight, SaidBy}
 use Rattle.syntax.specs.Postfix.{postfix}
 use Rattle.syntax.specs.Print.{inside, print, Below}
 use Rattle.syntax.specs.Reader.{parse}
@@ -137,11 +139,19 @@ counted (implies a b) = omega (arith, counted a, counted b)
 pub length-inside : (s o t : List ℕ) → length (inside s o t) ≡ length s + length o + length t + 2
 length-inside s o t = simp length-append (omega arith)
 
-long : (f : Formula) → length (print f) ≤ 6 * twos f + ones f + 2
+spell-short : (k : ℕ) → length (spell k) ≤ 2
+unfolding spell
+spell-short k = by-test (ltb k 10)
+  where
+    by-test : (b : Bool) → length (cond b ((48 + k) ∷ []) ((48 + k / 10) ∷ (48 + k % 10) ∷ [])) ≤ 2
+    by-test true = omega arith
+    by-test false = omega arith
+
+long : (f : Formula) → length (print f) ≤ 7 * twos f + ones f + 3
 unfolding print ones twos
 long never = omega arith
 long always = omega arith
-long (prop k) = omega arith
+long (prop k) = omega (arith, spell-short k)
 long (neg a) = omega (arith, long a)
 long (next a) = omega (arith, long a)
 long (finally a) = omega (arith, long a)
@@ -152,6 +162,20 @@ long (and a b) = omega (arith, long a, long b, length-inside (print a) (38 ∷ [
 long (or a b) = omega (arith, long a, long b, length-inside (print a) (124 ∷ []) (print b))
 long (implies a b) = omega (arith, long a, long b, length-inside (print a) (45 ∷ 62 ∷ []) (print b))
 
--- at most 93 bytes: an even number of nodes has a one-sided operator among them
-pub short : (f : Formula) → size f ≤ 32 → length (print f) ≤ 93
+-- at most 109 bytes: an even number of nodes has a one-sided operator among them
+pub short : (f : Formula) → size f ≤ 32 → length (print f) ≤ 109
 short f h = omega (arith, counted f, long f)
+
+-- arrows, n of them, between names of two digits
+arrowed : ℕ → Formula
+arrowed zero = prop 10
+arrowed (suc n) = implies (prop 10) (arrowed n)
+
+-- the bound is reached
+pub longest : (f : Formula) × (size f ≡ 32) × (parts f ≡ 0) × Below names f × (length (print f) ≡ 109)
+unfolding size parts print spell Below arrowed
+longest = (neg (arrowed 15), refl, refl, below 15, refl)
+  where
+    below : (n : ℕ) → Below names (arrowed n)
+    below zero = omega arith
+    below (suc n) = (omega arith, below n)

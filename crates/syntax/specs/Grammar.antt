@@ -1,8 +1,10 @@
 -- The grammar of rule texts: the tokens and their bytes, how tightly each operator binds and to which side it groups.
-use Prim.Native.Nat.{ℕ, suc, _+_, _≤_, _<_}
+use Prim.Native.Nat.{ℕ, suc, _+_, _/_, _%_, _≤_, _<_}
 use mathlib.Core.Path.{_≡_}
 use mathlib.Core.Logic.{_⊎_}
-use lib.ListN.{length, getD, take}
+use mathlib.Core.Bool.{cond}
+use lib.Dec.{ltb}
+use lib.ListN.{length, take, drop}
 use mathlib.Core.List.{List, [], _∷_, _++_}
 use Rattle.meaning.specs.Formula.{Formula, never, always, prop, neg, next, finally, globally, until, release, and, or, implies}
 use Rattle.syntax.specs.declared.Op.{Op}
@@ -10,15 +12,19 @@ use Rattle.syntax.specs.declared.Op.the-variants.{False, True, Prop, Not
 use Rattle.syntax.specs.declared.Token.{Token}
 use Rattle.syntax.specs.declared.Token.the-variants.{Leaf, Prefix, Infix, Open, Close}
 
--- how many propositions have a name: `p0` to `p7`
+-- how many propositions have a name: `p0` to `p15`
 abbrev pub names : ℕ
-names = 8
+names = 16
+
+-- a number below 100 in decimal, with no leading zero
+unfoldable pub spell : ℕ → List ℕ
+spell k = cond (ltb k 10) ((48 + k) ∷ []) ((48 + k / 10) ∷ (48 + k % 10) ∷ [])
 
 -- the bytes of each token: 0 1 p3 ! X F G U R & | -> ( )
 pub data Spelt : Token → List ℕ → Type 0 where
   sp-false : Spelt (Leaf False) (48 ∷ [])
   sp-true : Spelt (Leaf True) (49 ∷ [])
-  sp-prop : (k : ℕ) → k < names → Spelt (Leaf (Prop k)) (112 ∷ (48 + k) ∷ [])
+  sp-prop : (k : ℕ) → k < names → Spelt (Leaf (Prop k)) (112 ∷ spell k)
   sp-not : Spelt (Prefix Not) (33 ∷ [])
   sp-next : Spelt (Prefix Next) (88 ∷ [])
   sp-finally : Spelt (Prefix Finally) (70 ∷ [])
@@ -103,12 +109,14 @@ pub record Refused (s : List ℕ) (k : ℕ) : Type 0 where
   pub before : Viable (take k s)
   pub here : (k ≡ length s) ⊎ ((k < length s) × (Viable (take (suc k) s) → ⊥))
 
--- the proposition j stands at place k of s
+-- the name of the proposition j stands at place k of s
+abbrev pub Stands : List ℕ → ℕ → ℕ → Type 0
+Stands s k j = (j < names) × (rest : List ℕ) × (drop k s ≡ 112 ∷ (spell j ++ rest))
+
+-- the proposition j stands at place k of s: of the names that stand there, its own is the longest
 pub record Names (s : List ℕ) (k j : ℕ) : Type 0 where
-  pub named : j < names
-  pub within : suc k < length s
-  pub letter : getD s k 0 ≡ 112
-  pub digit : getD s (suc k) 0 ≡ 48 + j
+  pub stands : Stands s k j
+  pub longest : (i : ℕ) → Stands s k i → i ≤ j
 
 -- refusal 6 at place k, for q propositions: one that is not below q stands there, and before it none
 pub record Unknown (q : ℕ) (s : List ℕ) (k : ℕ) : Type 0 where

@@ -1,7 +1,8 @@
 -- The printed text of a rule.
-use Prim.Native.Nat.{ℕ, _+_, _<_}
+use Prim.Native.Nat.{ℕ, _<_}
 use Prim.{Unit}
 use mathlib.Core.List.{List, [], _∷_, _++_}
+use Rattle.syntax.specs.Grammar.{spell}
 use Rattle.meaning.specs.Formula.{Formula, never, always, prop, neg, next, finally, globally, until, release, and, or, implies}
 
 -- a two-sided operator with its operands, in parentheses
@@ -11,7 +12,7 @@ inside s o t = 40 ∷ (s ++ (o ++ (t ++ 41 ∷ [])))
 unfoldable pub print : Formula → List ℕ
 print never = 48 ∷ []
 print always = 49 ∷ []
-print (prop k) = 112 ∷ (48 + k) ∷ []
+print (prop k) = 112 ∷ spell k
 print (neg a) = 33 ∷ print a
 print (next a) = 88 ∷ print a
 print (finally a) = 70 ∷ print a

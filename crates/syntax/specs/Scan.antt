@@ -1,17 +1,18 @@
--- The scanner: two modes and a depth of open parentheses, with a mode inside `p3` and one inside `->`.
+-- The scanner: two modes and a depth of open parentheses, with a mode inside `p3`, one behind `p1`, which may go on, and one inside `->`.
 use Prim.Native.Nat.{ℕ, zero, suc, _+_}
 use mathlib.Core.List.{List, [], _∷_}
 use mathlib.Core.Bool.{Bool, true, false, cond}
+use lib.Dec.{eqb}
 use Rattle.syntax.specs.declared.Sign.{Sign}
 use Rattle.syntax.specs.declared.Sign.the-variants.{Blank, Digit, Letter, Before, Between, Dash, Angle, Left, Right, Other}
 use Rattle.syntax.specs.declared.Mode.{Mode}
-use Rattle.syntax.specs.declared.Mode.the-variants.{Operand, Number, Operator, Arrow, Stuck}
+use Rattle.syntax.specs.declared.Mode.the-variants.{Operand, Number, Teen, Operator, Arrow, Stuck}
 use Rattle.syntax.specs.declared.Move.{Move}
-use Rattle.syntax.specs.declared.Move.the-variants.{ToOperand, ToNumber, ToOperator, ToArrow, Opens, Closes, Stops}
+use Rattle.syntax.specs.declared.Move.the-variants.{ToOperand, ToNumber, ToTeen, ToOperator, ToArrow, Opens, Closes, Stops}
 use Rattle.syntax.specs.declared.State.{State}
 use Rattle.syntax.specs.declared.Scan.{Scan}
 use Rattle.syntax.specs.declared.Scan.the-variants.{Good, Bad}
-use Rattle.syntax.specs.Bytes.{signOf}
+use Rattle.syntax.specs.Bytes.{signOf, goesOn}
 
 abbrev pub at : Mode → ℕ → State
 at m d = record { mode = m; depth = d }
@@ -38,10 +39,13 @@ operand Left = Opens
 operand Right = Stops
 operand Other = Stops
 
--- the digit of a proposition is to come
+-- the first digit of a name is to come: 1 may be followed by another
+unfoldable pub named : ℕ → Move
+named k = cond (eqb k 1) ToTeen ToOperator
+
 abbrev pub digit : Sign → Move
 digit Blank = Stops
-digit (Digit k) = ToOperator
+digit (Digit k) = named k
 digit Letter = Stops
 digit (Before o) = Stops
 digit (Between o) = Stops
@@ -64,6 +68,10 @@ operator Left = Stops
 operator Right = Closes
 operator Other = Stops
 
+-- behind `p1`: the second digit of a name, or what follows a name
+unfoldable pub teen : Sign → Move
+teen k = cond (goesOn k) ToOperator (operator k)
+
 -- the `>` of an arrow is to come
 abbrev pub angle : Sign → Move
 angle Blank = Stops
@@ -80,6 +88,7 @@ angle Other = Stops
 abbrev pub move : Mode → Sign → Move
 move Operand k = operand k
 move Number k = digit k
+move Teen k = teen k
 move Operator k = operator k
 move Arrow k = angle k
 move Stuck k = Stops
@@ -92,6 +101,7 @@ closes (suc d) = at Operator d
 abbrev pub moved : ℕ → Move → State
 moved d ToOperand = at Operand d
 moved d ToNumber = at Number d
+moved d ToTeen = at Teen d
 moved d ToOperator = at Operator d
 moved d ToArrow = at Arrow d
 moved d Opens = at Operand (d + 1)
@@ -110,8 +120,8 @@ start = at Operand 0
 
 -- whether the text may end here
 abbrev pub ends : Mode → ℕ → Bool
-ends Operator zero = true
-ends Operator (suc d) = false
+ends Operator d = eqb d 0
+ends Teen d = eqb d 0
 ends Operand d = false
 ends Number d = false
 ends Arrow d = false
@@ -122,6 +132,7 @@ abbrev pub dead : Mode → Bool
 dead Stuck = true
 dead Operand = false
 dead Number = false
+dead Teen = false
 dead Operator = false
 dead Arrow = false
 

@@ -1,6 +1,8 @@
 // Rules as values, and the types and tables that reading, scanning and printing their texts share.
 ghost use mathlib.Core.Path.{_≡_};
-ghost use Rattle.syntax.specs.Bytes.{signOf, digitOf};
+ghost use Prim.Native.Nat.{_≤_};
+ghost use lib.ListN.{length, getD};
+ghost use Rattle.syntax.specs.Bytes.{signOf, digitOf, goesOn, NameAt};
 ghost use Rattle.syntax.specs.Postfix.{sides};
 ghost use Rattle.syntax.specs.Value.{emptyRule, stored, isPart};
 
@@ -30,7 +32,7 @@ pub struct Rule {
 }
 
 impl Rule {
-    // The most operators and leaves, the length that tells of more, the most temporal operators, and the most bytes of text.
+    // The most operators and leaves, the length that tells of more, the most temporal operators, the most bytes of text, and how many propositions have a name.
     pub const MAX: usize = 32;
 
     pub const OVER: usize = 33;
@@ -38,6 +40,8 @@ impl Rule {
     pub const PARTS: usize = 6;
 
     pub const TEXT: usize = 512;
+
+    pub const NAMES: usize = 16;
 
     // The value with no node, which is no rule's.
     pub fn empty() -> Self
@@ -82,10 +86,11 @@ pub enum Sign {
     Other,
 }
 
-// What may come next: an operand, the digit of a proposition, an operator, the `>` of an arrow; or nothing any more.
+// What may come next: an operand, the digit of a proposition, a second one or an operator, an operator, the `>` of an arrow; or nothing any more.
 pub enum Mode {
     Operand,
     Number,
+    Teen,
     Operator,
     Arrow,
     Stuck,
@@ -95,6 +100,7 @@ pub enum Mode {
 pub enum Move {
     ToOperand,
     ToNumber,
+    ToTeen,
     ToOperator,
     ToArrow,
     Opens,
@@ -118,7 +124,7 @@ pub fn sign_of(b: u8) -> Sign
     ensures { λ r. ⌜ r ≡ signOf b ⌝ }
 {
     match b {
-        b'0'..=b'7' => Sign::Digit(b - b'0'),
+        b'0'..=b'9' => Sign::Digit(b - b'0'),
         b' ' => Sign::Blank,
         b'!' => Sign::Before(Op::Not),
         b'&' => Sign::Between(Op::And),
@@ -137,7 +143,7 @@ pub fn sign_of(b: u8) -> Sign
     }
 }
 
-// The number of a digit after `p`.
+// The number of a digit.
 pub fn digit_of(sign: Sign) -> u8
     ensures { λ r. ⌜ r ≡ digitOf sign ⌝ }
 {
@@ -152,6 +158,73 @@ pub fn digit_of(sign: Sign) -> u8
         Sign::Dash => 0,
         Sign::Left => 0,
         Sign::Right => 0,
+    }
+}
+
+// Whether a byte of the sign makes `p1` a longer name.
+pub fn goes_on(sign: Sign) -> bool
+    ensures { λ r. ⌜ r ≡ goesOn sign ⌝ }
+{
+    match sign {
+        Sign::Digit(k) => 10 + (k as usize) < Rule::NAMES,
+        Sign::Blank => false,
+        Sign::Angle => false,
+        Sign::Other => false,
+        Sign::Letter => false,
+        Sign::Before(_) => false,
+        Sign::Between(_) => false,
+        Sign::Dash => false,
+        Sign::Left => false,
+        Sign::Right => false,
+    }
+}
+
+// The number of a proposition, and the place behind its name.
+pub struct Name {
+    pub number: u8,
+    pub next: usize,
+}
+
+// What the byte at a place may be; beyond the end none stands.
+fn sign_at(text: &[u8], at: usize) -> Sign
+    ensures { λ r. ⌜ r ≡ signOf (getD (now (text .entry)) at 0) ⌝ }
+{
+    if at < text.len() {
+        sign_of(text[at])
+    } else {
+        Sign::Other
+    }
+}
+
+// The proposition whose name goes on at `at`, behind its `p`.
+pub fn name_at(text: &[u8], at: usize) -> Name
+    requires { ⌜ at ≤ length (now text) ⌝ }
+    ensures { λ r. ⌜ NameAt (now (text .entry)) at r ⌝ }
+{
+    if text.len() <= at {
+        return Name {
+            number: 0,
+            next: at,
+        };
+    }
+    let next = at + 1;
+    let first = digit_of(sign_of(text[at]));
+    if first != 1 {
+        return Name {
+            number: first,
+            next,
+        };
+    }
+    let sign = sign_at(text, next);
+    if goes_on(sign) {
+        return Name {
+            number: 10 + digit_of(sign),
+            next: next + 1,
+        };
+    }
+    Name {
+        number: first,
+        next,
     }
 }
 

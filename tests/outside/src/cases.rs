@@ -390,7 +390,7 @@ fn damaged_plant(dice: &mut Dice) -> Files {
 fn damaged_rule(dice: &mut Dice) -> Files {
     let parts = dice.from(1, 8);
     let (plant, _, log) = good(dice, 3, 1, 2);
-    let props = if dice.chance(30) { 8 } else { plant.props };
+    let props = if dice.chance(30) { 16 } else { plant.props };
     let rule = rule(dice, props, parts);
     let mut files = files(&plant, &rule, &log);
     let text = bytes(&mut files.rule);
@@ -423,7 +423,7 @@ fn rule_at_limits(dice: &mut Dice) -> Files {
             temporal += 1;
             count += 1;
         } else if dice.chance(40) && count + 2 <= nodes {
-            text = format!("{}{}{}", text, dice.pick(&["&", "|", "->"]), dice.pick(&["p0", "(1)", " 0 ", "p7"]));
+            text = format!("{}{}{}", text, dice.pick(&["&", "|", "->"]), dice.pick(&["p0", "(1)", " 0 ", "p15"]));
             count += 2;
         } else {
             text = format!("!({})", text);
@@ -615,7 +615,9 @@ pub const GIVEN: &[(&str, &str, &str, &str)] = &[
     (W, "Fp0", "see=03 val=00 new=0\nsee=00 val=00 new=0\nsee=02 val=02 new=0\n", "start verdict=inconclusive left=1\nn=0 verdict=inconclusive left=1\nn=1 verdict=inconclusive left=2\nn=2 verdict=true left=1\n"),
     (W, "", "", "refused=5 place=0\n"),
     (W, "p0 p1", "", "refused=5 place=3\n"),
-    (W, "p8", "", "refused=5 place=1\n"),
+    (W, "p8", "", "refused=6 place=0\n"),
+    (W, "p0|p10&p1", "", "refused=6 place=3\n"),
+    (W, "p16", "", "refused=5 place=2\n"),
     (W, "p0-", "", "refused=5 place=3\n"),
     (W, "((p0)", "", "refused=5 place=5\n"),
     (W, "!!!!!!!!!!!!!!!!!!!!!!!!!!!!!!!p0", "", "start verdict=true left=1\n"),

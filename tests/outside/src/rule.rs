@@ -46,7 +46,11 @@ fn tokens(text: &[u8]) -> Option<Vec<Token>> {
                     at += 1;
                 }
                 match text.get(at) {
-                    Some(d) if (b'0'..=b'7').contains(d) => {
+                    Some(b'1') if text.get(at + 1).map_or(false, |d| (b'0'..=b'5').contains(d)) && !faults::is(Fault::NamesOfOneDigit) => {
+                        at += 2;
+                        Token::Prop(10 + text[at - 1] - b'0')
+                    }
+                    Some(d) if d.is_ascii_digit() => {
                         at += 1;
                         Token::Prop(d - b'0')
                     }
@@ -191,7 +195,8 @@ impl Rule {
 }
 
 fn bad_prop(text: &[u8], props: usize) -> Option<Refusal> {
-    let mut bad = (0..text.len()).filter(|i| text[*i] == b'p' && text[i + 1..].iter().find(|b| **b != b' ').map_or(false, |d| (d - b'0') as usize >= props));
+    let number = |i: usize| text[i + 1..].iter().skip_while(|b| **b == b' ').take_while(|b| b.is_ascii_digit()).fold(0, |n, d| 10 * n + (d - b'0') as usize);
+    let mut bad = (0..text.len()).filter(|i| text[*i] == b'p' && number(*i) >= props);
     let place = if faults::is(Fault::PropPlaceLast) { bad.last() } else { bad.next() }?;
     Some(Refusal { number: 6, place: place + faults::is(Fault::PropPlaceDigit) as usize })
 }
@@ -259,7 +264,10 @@ mod tests {
         assert_eq!(printed("p0&p1&p0"), "((p0&p1)&p0)");
         assert_eq!(refused(""), (5, 0));
         assert_eq!(refused("p0 p1"), (5, 3));
-        assert_eq!(refused("p8"), (5, 1));
+        assert_eq!(refused("p8"), (6, 0));
+        assert_eq!(refused("p16"), (5, 2));
+        assert_eq!(refused("p01"), (5, 2));
+        assert_eq!(refused("p1 0"), (5, 3));
         assert_eq!(refused("p0-"), (5, 3));
         assert_eq!(refused("((p0)"), (5, 5));
         assert_eq!(read(format!("{}p0", "!".repeat(31)).as_bytes(), 1).is_ok(), true);

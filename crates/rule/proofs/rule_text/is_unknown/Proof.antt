@@ -1,8 +1,7 @@
 -- `rule::rule_text::is_unknown` meets its contract. Assumes nothing.
 use mathlib.Core.Path.{ap, _∙_}
 use lib.Dec.{leb}
-use Rattle.syntax.specs.Bytes.{digitOf}
-use Rattle.rule.proofs.Checks.{unknown-end, unknown-other, unknown-digit}
+use Rattle.rule.proofs.Checks.{unknown-end, unknown-other, unknown-name}
 use borrow.Author.Needs.{needs}
 use Rattle.rule.proofs.rule_text.is_unknown.Statement.{statement}
 use Rattle.rule.proofs.rule_text.is_unknown.Tie as tie
@@ -15,12 +14,12 @@ returns-2 c = let start = c .before .before .before .before in unknown-other (st
 
 returns-3 : tie.Need-returns-3
 returns-3 c =
-    let y = c .before .before .before in
+    let y = c .before .before in
     let start = y .before .before .before .before in
-    ap (leb (start .args .props)) (c .digit-of .ensures ∙ ap digitOf (c .before .sign-of .ensures))
-    ∙ unknown-digit (start .args .props) (start .args .text .now) (start .args .at) (y .before .before .if1 .left) (y .if2 .left)
+    ap (leb (start .args .props)) (c .before .name-at .ensures .number-is)
+    ∙ unknown-name (start .args .props) (start .args .text .now) (start .args .at) (y .before .before .if1 .left) (y .if2 .left)
 
 pub is-unknown-spec : {M : Type 1} → statement M
 is-unknown-spec =
     tie.close (tie.spec
-    (λ c. search needs) returns (λ c. search needs) returns-2 (λ c. search needs) (λ c κs. search needs) (λ c κs. search needs) (λ c. search needs) returns-3)
+    (λ c. search needs) returns (λ c. search needs) returns-2 (λ c κs. search needs) (λ c. search needs) returns-3)
