@@ -3,7 +3,7 @@ use Prim.Native.Nat.{ℕ, _*_}
 use mathlib.Core.List.{List}
 use Rattle.syntax.specs.declared.Rule.{Rule}
 use Rattle.shape.specs.Shape.{beginsOf, numbersOf, kindsOf, nextsIn, partsIn, orderIn}
-use Rattle.truth.specs.Nodes.{havings, nodesAfter, holdsOf}
+use Rattle.truth.specs.Nodes.{nodesAfter, holdsOf}
 use Rattle.truth.specs.Rows.{rowsFrom}
 use Rattle.truth.specs.declared.rows.Asked.{Asked}
 use Rattle.truth.specs.declared.rows.Asked.the-variants.{Low, High, Operand, Settled}
@@ -14,7 +14,7 @@ use Rattle.truth.specs.declared.tables.Tables.{Tables}
 -- the words of all places of a rule
 unfoldable pub wordsIn : List ℕ → Rule → List ℕ
 wordsIn label rule =
-    nodesAfter (rule .nodes) (havings label) (beginsOf (rule .nodes) (rule .len)) (numbersOf (orderIn rule) (partsIn rule)) (rule .len * 64)
+    nodesAfter (rule .nodes) label (beginsOf (rule .nodes) (rule .len)) (numbersOf (orderIn rule) (partsIn rule)) (rule .len * 64)
 
 -- one table of its parts
 unfoldable pub rowsIn : Asked → List ℕ → Rule → List ℕ
@@ -23,7 +23,7 @@ rowsIn asked label rule =
 
 -- the same from a rule's shape and the words of its places, as the code goes
 abbrev pub wordsBy : List ℕ → Rule → Shape → List ℕ
-wordsBy label rule shape = nodesAfter (rule .nodes) (havings label) (shape .begins) (shape .numbers) (rule .len * 64)
+wordsBy label rule shape = nodesAfter (rule .nodes) label (shape .begins) (shape .numbers) (rule .len * 64)
 
 abbrev pub rowsBy : Asked → Shape → List ℕ → List ℕ
 rowsBy asked shape words = rowsFrom asked (shape .kinds .nodes) (shape .begins) (shape .order) words

@@ -9,25 +9,25 @@ use Rattle.syntax.specs.declared.Node.{Node}
 use Rattle.syntax.specs.declared.Op.{Op}
 use Rattle.truth.specs.Columns.{columnFilled, columnsFilled, columns-all, column-turn}
 use Rattle.shape.specs.Ops.{opAt}
-use Rattle.truth.specs.Nodes.{madeOf, ownOf, wordAt, nodeFilled, nodesAfter}
+use Rattle.truth.specs.Nodes.{leafOf, madeOf, ownOf, wordAt, nodeFilled, nodesAfter}
 use Rattle.truth.specs.Rows.{toldOf, partAt, rowAt, rowsFrom}
 use Rattle.truth.specs.declared.rows.Asked.{Asked}
 
 -- ---- the words behind node `at`
 
 pub node-turn :
-    (op : Op) (having : List ℕ) (first number at : ℕ) (words : List ℕ) (v : ℕ) (w : List ℕ) (x own y : ℕ) →
-    w ≡ nodeFilled op having first number at words v → x ≡ wordAt w first v → own ≡ ownOf v number →
-    y ≡ madeOf op having x (getD w (at * 64 + v) 0) own → set w (at * 64 + v + 64) y ≡ nodeFilled op having first number at words (v + 1)
+    (op : Op) (leaf first number at : ℕ) (words : List ℕ) (v : ℕ) (w : List ℕ) (x own y : ℕ) →
+    w ≡ nodeFilled op leaf first number at words v → x ≡ wordAt w first v → own ≡ ownOf v number →
+    y ≡ madeOf op leaf x (getD w (at * 64 + v) 0) own → set w (at * 64 + v + 64) y ≡ nodeFilled op leaf first number at words (v + 1)
 unfolding nodeFilled
-node-turn op having first number at words v w x own y e g o h = rw (h, o, g, e, add-one)
+node-turn op leaf first number at words v w x own y e g o h = rw (h, o, g, e, add-one)
 
-module _ (nodes : List Node) (having begins numbers : List ℕ) where
+module _ (nodes : List Node) (label begins numbers : List ℕ) where
   abbrev after : ℕ → List ℕ
-  after n = nodesAfter nodes having begins numbers n
+  after n = nodesAfter nodes label begins numbers n
 
   -- they are the next 64
-  node-words : (at v : ℕ) → v ≤ 64 → after (at * 64 + v) ≡ nodeFilled (opAt nodes at) having (getD begins at 0) (getD numbers at 0) at (after (at * 64)) v
+  node-words : (at v : ℕ) → v ≤ 64 → after (at * 64 + v) ≡ nodeFilled (opAt nodes at) (leafOf (opAt nodes at) label) (getD begins at 0) (getD numbers at 0) at (after (at * 64)) v
   unfolding nodesAfter nodeFilled
   node-words at zero l = let e : at * 64 + 0 ≡ at * 64 = omega arith in rw e
   node-words at (suc v) l =
@@ -38,11 +38,11 @@ module _ (nodes : List Node) (having begins numbers : List ℕ) where
       rw (← e, n, q, r)
 
   pub nodes-turn :
-      (at : ℕ) (w : List ℕ) (first number : ℕ) (r : List ℕ) → w ≡ after (at * 64) → first ≡ getD begins at 0 → number ≡ getD numbers at 0 →
-      r ≡ nodeFilled (opAt nodes at) having first number at w 64 → r ≡ after ((at + 1) * 64)
-  nodes-turn at w first number r e f m h =
+      (at : ℕ) (w : List ℕ) (leaf first number : ℕ) (r : List ℕ) → w ≡ after (at * 64) → leaf ≡ leafOf (opAt nodes at) label → first ≡ getD begins at 0 → number ≡ getD numbers at 0 →
+      r ≡ nodeFilled (opAt nodes at) leaf first number at w 64 → r ≡ after ((at + 1) * 64)
+  nodes-turn at w leaf first number r e l f m h =
       let n : (at + 1) * 64 ≡ at * 64 + 64 = omega arith in
-      rw (h, m, f, e, n) (sym (node-words at 64 (omega arith)))
+      rw (h, m, f, l, e, n) (sym (node-words at 64 (omega arith)))
 
 -- ---- the entries of part k
 

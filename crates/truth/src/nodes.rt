@@ -5,22 +5,40 @@ use syntax::Rule;
 ghost use mathlib.Core.Path.{_≡_};
 ghost use Prim.Native.Nat.{_*_, _≤_, _<_};
 ghost use lib.ListN.{length};
-ghost use Rattle.truth.specs.Nodes.{havings, ownOf, madeOf, wordAt, nodeFilled, nodesAfter, holdsOf};
+ghost use Rattle.truth.specs.Nodes.{namedOf, leafOf, ownOf, madeOf, wordAt, nodeFilled, nodesAfter, holdsOf};
 
-pub struct Having {
-    pub words: [u64; 8],
+// The states whose label has the proposition p. One without a name no state has.
+fn having(label: &[u16], p: u8) -> u64
+    requires { ⌜ length (now label) ≤ 64 ⌝ }
+    ensures { λ r. ⌜ r ≡ namedOf (now (label .entry)) p ⌝ }
+{
+    let number = p as usize;
+    if number < Rule::NAMES {
+        return labels::having(label, number);
+    }
+    0
 }
 
-// The states whose label has each proposition.
-pub fn propositions(label: &[u16]) -> Having
+// The states where a node holds by their labels alone, if it is a proposition. (Of the propositions that a rule does not name nothing is worked
+// out, so what this takes does not grow with their number.)
+fn leaf(op: Op, label: &[u16]) -> u64
     requires { ⌜ length (now label) ≤ 64 ⌝ }
-    ensures { λ r. ⌜ r .words ≡ havings (now (label .entry)) ⌝ }
+    ensures { λ r. ⌜ r ≡ leafOf op (now (label .entry)) ⌝ }
 {
-    let mut words = [0u64; 8];
-    for p in 0..8 {
-        words[p] = labels::having(label, p);
+    match op {
+        Op::Prop(p) => having(label, p),
+        Op::False => 0,
+        Op::True => 0,
+        Op::Not => 0,
+        Op::Next => 0,
+        Op::Finally => 0,
+        Op::Globally => 0,
+        Op::Until => 0,
+        Op::Release => 0,
+        Op::And => 0,
+        Op::Or => 0,
+        Op::Implies => 0,
     }
-    Having { words }
 }
 
 // Part k at the valuation v: all states or none.
@@ -33,14 +51,14 @@ pub fn own(v: usize, k: usize) -> u64
     0
 }
 
-// A node's word from those of its operands, x the first of two and y the last; `own` is a part's.
-fn made(op: Op, having: &[u64; 8], x: u64, y: u64, own: u64) -> u64
-    ensures { λ r. ⌜ r ≡ madeOf op (now (having .entry)) x y own ⌝ }
+// A node's word from those of its operands, x the first of two and y the last; `leaf` is a proposition's, `own` a part's.
+fn made(op: Op, leaf: u64, x: u64, y: u64, own: u64) -> u64
+    ensures { λ r. ⌜ r ≡ madeOf op leaf x y own ⌝ }
 {
     match op {
         Op::False => 0,
         Op::True => 0xffff_ffff_ffff_ffff,
-        Op::Prop(p) => words::entry(having, p as usize),
+        Op::Prop(_) => leaf,
         Op::Not => !y,
         Op::Next => own,
         Op::Finally => own,
@@ -70,32 +88,20 @@ pub struct Nodes {
 
 // The words behind node `at`, which come from words before them: `first` is where the first of two operands ends, `number` which part
 // the node is. (A loop for each node: what the node says is looked up once, and not for each word.)
-fn fill_node(
-    op: Op,
-    having: &[u64; 8],
-    first: usize,
-    number: usize,
-    at: usize,
-    words: &mut [u64; 2112],
-)
+fn fill_node(op: Op, leaf: u64, first: usize, number: usize, at: usize, words: &mut [u64; 2112])
     requires { ⌜ at < 32 ⌝ }
-    ensures { λ _. ⌜ now (words .exit) ≡ nodeFilled op (now (having .entry)) first number at (now (words .entry)) 64 ⌝ }
+    ensures { λ _. ⌜ now (words .exit) ≡ nodeFilled op leaf first number at (now (words .entry)) 64 ⌝ }
 {
     for v in 0..64 {
         let x = word_at(words, first, v);
-        words[at * 64 + v + 64] = made(op, having, x, words[at * 64 + v], own(v, number));
+        words[at * 64 + v + 64] = made(op, leaf, x, words[at * 64 + v], own(v, number));
     }
 }
 
 // Node by node.
-pub fn node_words(
-    rule: Rule,
-    having: &[u64; 8],
-    begins: &[usize; 33],
-    numbers: &[usize; 32],
-) -> Nodes
-    requires { ⌜ rule .len ≤ 32 ⌝ }
-    ensures { λ r. ⌜ r .words ≡ nodesAfter (rule .nodes) (now (having .entry)) (now (begins .entry)) (now (numbers .entry)) (rule .len * 64) ⌝ }
+pub fn node_words(rule: Rule, label: &[u16], begins: &[usize; 33], numbers: &[usize; 32]) -> Nodes
+    requires { ⌜ (rule .len ≤ 32) × (length (now label) ≤ 64) ⌝ }
+    ensures { λ r. ⌜ r .words ≡ nodesAfter (rule .nodes) (now (label .entry)) (now (begins .entry)) (now (numbers .entry)) (rule .len * 64) ⌝ }
 {
     let len = rule.len;
     let mut words = [0u64; 2112];
@@ -104,7 +110,7 @@ pub fn node_words(
         let op = node.op;
         fill_node(
             op,
-            having,
+            leaf(op, label),
             entry(begins, at),
             entry(numbers, at),
             at,

@@ -2,7 +2,6 @@
 use crate::nodes::Holds;
 use crate::nodes::Nodes;
 use crate::nodes::node_words;
-use crate::nodes::propositions;
 use crate::nodes::rule_words;
 use crate::rows::Asked;
 use crate::rows::Rows;
@@ -46,8 +45,7 @@ fn words_of(label: &[u16], rule: Rule, shape: Shape) -> Nodes
 {
     let begins = shape.begins;
     let numbers = shape.numbers;
-    let having = propositions(label);
-    node_words(rule, &having.words, &begins, &numbers)
+    node_words(rule, label, &begins, &numbers)
 }
 
 // One table of the parts.

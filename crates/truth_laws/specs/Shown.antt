@@ -1,28 +1,29 @@
 -- The word behind a rule's last node shows where the rule holds, and so for each of its operands.
 use Prim.Native.Nat.{ℕ, suc, _+_, _-_, _*_, _^_, _≤_, _<_}
 use mathlib.Core.Path.{_≡_, refl, sym, ap, subst, _∙_}
-use mathlib.Core.Bool.{Bool, true, cond, _&&_}
+use mathlib.Core.Bool.{Bool, true, false, cond, _&&_}
 use mathlib.Core.List.{List}
 use native.Mathlib.Omega.{arith}
 use native.Mathlib.Nat.{lt-of-lt-of-le}
-use native.Mathlib.Decide.{decLt}
 use lib.Pow.{pow-mono}
-use lib.ListN.{length, getD, List·getD-eq-default}
+use lib.ListN.{length, getD}
+use lib.Dec.{ltb}
 use borrow.Author.Tests.{lt-ltb}
 use Rattle.meaning.specs.Bit.{bit}
 use Rattle.meaning.specs.Formula.{Formula, never, always, prop, neg, next, finally, globally, until, release, and, or, implies}
 use Rattle.meaning.specs.Run.{Plant}
 use Rattle.meaning.specs.Limits.{AcceptedTable}
 use Rattle.syntax.specs.declared.Op.{Op}
+use Rattle.syntax.specs.declared.Op.the-variants.{False, True, Prop, Not, Next, Finally, Globally, Until, Release, And, Or, Implies}
 use Rattle.syntax.specs.declared.Rule.{Rule}
+use Rattle.syntax.specs.Grammar.{names}
 use Rattle.syntax.specs.Print.{Below}
-use Rattle.words.specs.Lists.{list-at, length-list}
 use Rattle.words.specs.Unions.{wordOf-lt}
 use Rattle.labels.specs.Labels.{havingOf}
 use Rattle.model.specs.Values.{Shows, wholly, shows-never, shows-always, shows-prop, shows-neg, shows-next, shows-finally, shows-globally, shows-until, shows-release, shows-and, shows-or, shows-implies}
 use Rattle.shape.specs.Ops.{opAt, isPart}
 use Rattle.shape.specs.Shape.{beginsOf, numbersOf, partsIn, orderIn}
-use Rattle.truth.specs.Nodes.{havings, ownOf, madeOf, wordAt}
+use Rattle.truth.specs.Nodes.{namedOf, leafOf, ownOf, madeOf, wordAt}
 use Rattle.truth.specs.Tables.{wordsIn}
 use Rattle.truth_laws.specs.Begins.{begins-before}
 use Rattle.truth_laws.specs.Words.{after-small, word-small, word-made}
@@ -51,53 +52,68 @@ module _ (T : Plant) (A : AcceptedTable T) (rule : Rule) where
   few-labels : length label ≤ 64
   few-labels = omega (arith, A .labels, A .few-states)
 
-  having-small : (p : ℕ) → getD (havings label) p 0 < 2 ^ 64
-  unfolding havings havingOf
-  having-small p = elim (decLt p 8) [
-    | yes l ↦ rw (list-at 8 (havingOf label) p l) (lt-of-lt-of-le (wordOf-lt (length label) (λ s. bit (getD label s 0) p)) (pow-mono few-labels))
-    | no h ↦ rw (List·getD-eq-default (havings label) 0 {n = p} (omega (arith, length-list 8 (havingOf label)))) (omega arith)
-  ]
+  named-small : (p : ℕ) → namedOf label p < 2 ^ 64
+  unfolding namedOf havingOf
+  named-small p = by-test (ltb p names)
+    where
+      by-test : (b : Bool) → cond b (havingOf label p) 0 < 2 ^ 64
+      by-test true = lt-of-lt-of-le (wordOf-lt (length label) (λ s. bit (getD label s 0) p)) (pow-mono few-labels)
+      by-test false = omega arith
+
+  leaf-small : (o : Op) → leafOf o label < 2 ^ 64
+  leaf-small (Prop p) = named-small p
+  leaf-small False = omega arith
+  leaf-small True = omega arith
+  leaf-small Not = omega arith
+  leaf-small Next = omega arith
+  leaf-small Finally = omega arith
+  leaf-small Globally = omega arith
+  leaf-small Until = omega arith
+  leaf-small Release = omega arith
+  leaf-small And = omega arith
+  leaf-small Or = omega arith
+  leaf-small Implies = omega arith
 
   pub small : rule .len ≤ 32 → (p v : ℕ) → word p v < 2 ^ 64
   unfolding wordsIn
   small short p v =
-      word-small (wordsIn label rule) (after-small (rule .nodes) (havings label) begins numbers having-small (rule .len * 64) (omega arith)) p v
+      word-small (wordsIn label rule) (after-small (rule .nodes) label begins numbers leaf-small (rule .len * 64) (omega arith)) p v
 
   -- a node's word from its operands'
   made : rule .len ≤ 32 → (o : Op) (p v : ℕ) → opAt (rule .nodes) p ≡ o → p < rule .len → v < 64
-      → word (suc p) v ≡ madeOf o (havings label) (word (getD begins p 0) v) (word p v) (ownOf v (getD numbers p 0))
+      → word (suc p) v ≡ madeOf o (leafOf o label) (word (getD begins p 0) v) (word p v) (ownOf v (getD numbers p 0))
   unfolding wordsIn
   made short o p v e l lv =
-      word-made (rule .nodes) (havings label) begins numbers (rule .len) short p v l lv (begins-before (rule .nodes) (rule .len) short p)
-      ∙ ap (λ (x : Op). madeOf x (havings label) (word (getD begins p 0) v) (word p v) (ownOf v (getD numbers p 0))) e
+      word-made (rule .nodes) label begins numbers (rule .len) short p v l lv (begins-before (rule .nodes) (rule .len) short p)
+      ∙ ap (λ (x : Op). madeOf x (leafOf x label) (word (getD begins p 0) v) (word p v) (ownOf v (getD numbers p 0))) e
 
   own-word : (v x k : ℕ) → PartAt rule x k → ownOf v (getD numbers x 0) ≡ wholly (bit v k)
   own-word v x k c = ap (ownOf v) (c .number) ∙ own-wholly v k (c .few)
 
   -- by how many operands it takes
   leaf-word : {o : Op} {i n : ℕ} → Occurs rule (leaf o) i n → (v : ℕ) → v < 64
-      → word (i + nodesIn (leaf o)) v ≡ madeOf o (havings label) (word (getD begins i 0) v) (word i v) (ownOf v (getD numbers i 0))
+      → word (i + nodesIn (leaf o)) v ≡ madeOf o (leafOf o label) (word (getD begins i 0) v) (word i v) (ownOf v (getD numbers i 0))
   unfolding nodesIn
   leaf-word {o} {i} c v lv =
       let e : i + 1 ≡ suc i = omega arith in
       ap (λ p. word p v) e ∙ made (c .short) o i v (leaf-op c) (omega (arith, c .fits)) lv
 
   above-word : {o : Op} {u : Tree} {j n z : ℕ} → Above rule o u j n z → (v : ℕ) → v < 64
-      → word z v ≡ madeOf o (havings label) (word j v) (word (j + nodesIn u) v) (ownOf v (getD numbers (j + nodesIn u) 0))
+      → word z v ≡ madeOf o (leafOf o label) (word j v) (word (j + nodesIn u) v) (ownOf v (getD numbers (j + nodesIn u) 0))
   above-word {o} {u} {j} c v lv =
       ap (λ p. word p v) (c .ends) ∙ made (c .short) o (j + nodesIn u) v (c .op) (c .inside) lv
-      ∙ ap (λ p. madeOf o (havings label) (word p v) (word (j + nodesIn u) v) (ownOf v (getD numbers (j + nodesIn u) 0))) (above-begins c)
+      ∙ ap (λ p. madeOf o (leafOf o label) (word p v) (word (j + nodesIn u) v) (ownOf v (getD numbers (j + nodesIn u) 0))) (above-begins c)
 
   -- a part's word is its own value
   abbrev Own : Op → Type 0
-  Own o = (isPart o ≡ true) × ((h : List ℕ) (x y w : ℕ) → madeOf o h x y w ≡ w)
+  Own o = (isPart o ≡ true) × ((h x y w : ℕ) → madeOf o h x y w ≡ w)
 
   part-word : {o : Op} {u : Tree} {j n z : ℕ} → Above rule o u j n z → Own o → (v : ℕ) → v < 64 → wholly (bit v n) ≡ word z v
   part-word {u} {j} {n} c (e, own) v lv = sym (above-word c v lv ∙ own _ _ _ _ ∙ own-word v (j + nodesIn u) n (above-part c e .0))
 
-  prop-word : (p : ℕ) → p < 8 → havingOf label p ≡ getD (havings label) p 0
-  unfolding havings
-  prop-word p l = sym (list-at 8 (havingOf label) p l)
+  prop-word : (p : ℕ) → p < names → havingOf label p ≡ namedOf label p
+  unfolding namedOf
+  prop-word p l = rw (lt-ltb p names l)
 
   pub shown : (g : Formula) {i n : ℕ} → Occurs rule (treeOf g) i n → Below (T .props) g → (v : ℕ) → v < 64
       → Shows T g n v (word (i + nodesIn (treeOf g)) v)

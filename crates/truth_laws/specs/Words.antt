@@ -18,7 +18,7 @@ use Rattle.syntax.specs.declared.Node.{Node}
 use Rattle.words.specs.Word.{onlyOf}
 use Rattle.words.specs.Lists.{zeros}
 use Rattle.shape.specs.Ops.{opAt}
-use Rattle.truth.specs.Nodes.{ownOf, madeOf, wordAt, nodesAfter}
+use Rattle.truth.specs.Nodes.{leafOf, ownOf, madeOf, wordAt, nodesAfter}
 use Rattle.truth_laws.specs.Grows.{stays}
 
 -- ---- they are words
@@ -40,29 +40,29 @@ word-small w h p v = go (ltb p 33)
 at-place : (w : List ℕ) (p v : ℕ) → p < 33 → wordAt w p v ≡ getD w (p * 64 + v) 0
 at-place w p v h = ap (λ (b : Bool). cond b (getD w (p * 64 + v) 0) 0) (lt-ltb p 33 h)
 
-made-small : (o : Op) (having : List ℕ) (x y own : ℕ) → ((p : ℕ) → getD having p 0 < 2 ^ 64) → x < 2 ^ 64 → y < 2 ^ 64 → own < 2 ^ 64
-    → madeOf o having x y own < 2 ^ 64
-made-small False having x y own h lx ly lo = omega arith
-made-small True having x y own h lx ly lo = omega arith
-made-small (Prop p) having x y own h lx ly lo = h p
-made-small Not having x y own h lx ly lo = omega arith
-made-small Next having x y own h lx ly lo = lo
-made-small Finally having x y own h lx ly lo = lo
-made-small Globally having x y own h lx ly lo = lo
-made-small Until having x y own h lx ly lo = lo
-made-small Release having x y own h lx ly lo = lo
-made-small And having x y own h lx ly lo = lt-of-le-of-lt (and-le-l x y) lx
-made-small Or having x y own h lx ly lo = or-lt 64 x y lx ly
-made-small Implies having x y own h lx ly lo = or-lt 64 (2 ^ 64 - 1 - x) y (omega arith) ly
+made-small : (o : Op) (leaf x y own : ℕ) → leaf < 2 ^ 64 → x < 2 ^ 64 → y < 2 ^ 64 → own < 2 ^ 64
+    → madeOf o leaf x y own < 2 ^ 64
+made-small False leaf x y own h lx ly lo = omega arith
+made-small True leaf x y own h lx ly lo = omega arith
+made-small (Prop p) leaf x y own h lx ly lo = h
+made-small Not leaf x y own h lx ly lo = omega arith
+made-small Next leaf x y own h lx ly lo = lo
+made-small Finally leaf x y own h lx ly lo = lo
+made-small Globally leaf x y own h lx ly lo = lo
+made-small Until leaf x y own h lx ly lo = lo
+made-small Release leaf x y own h lx ly lo = lo
+made-small And leaf x y own h lx ly lo = lt-of-le-of-lt (and-le-l x y) lx
+made-small Or leaf x y own h lx ly lo = or-lt 64 x y lx ly
+made-small Implies leaf x y own h lx ly lo = or-lt 64 (2 ^ 64 - 1 - x) y (omega arith) ly
 
-module _ (nodes : List Node) (having begins numbers : List ℕ) where
+module _ (nodes : List Node) (label begins numbers : List ℕ) where
   abbrev after : ℕ → List ℕ
-  after n = nodesAfter nodes having begins numbers n
+  after n = nodesAfter nodes label begins numbers n
 
   -- what turn n stores
   abbrev stored : ℕ → ℕ
   stored n =
-      madeOf (opAt nodes (n / 64)) having (wordAt (after n) (getD begins (n / 64) 0) (n % 64)) (getD (after n) n 0) (ownOf (n % 64) (getD numbers (n / 64) 0))
+      madeOf (opAt nodes (n / 64)) (leafOf (opAt nodes (n / 64)) label) (wordAt (after n) (getD begins (n / 64) 0) (n % 64)) (getD (after n) n 0) (ownOf (n % 64) (getD numbers (n / 64) 0))
 
   length-after : (n : ℕ) → length (after n) ≡ 2112
   unfolding nodesAfter
@@ -77,14 +77,14 @@ module _ (nodes : List Node) (having begins numbers : List ℕ) where
   unfolding nodesAfter
   after-other n x d = getD-set-other (after n) (n + 64) x (stored n) 0 d
 
-  module _ (small : (p : ℕ) → getD having p 0 < 2 ^ 64) where
+  module _ (small : (o : Op) → leafOf o label < 2 ^ 64) where
     pub after-small : (n : ℕ) → n ≤ 2048 → (x : ℕ) → getD (after n) x 0 < 2 ^ 64
     unfolding nodesAfter
     after-small zero l x = rw (zeros 2112 x) (omega arith)
     after-small (suc n) l x =
         let old : (x : ℕ) → getD (after n) x 0 < 2 ^ 64 = after-small n (omega arith) in
         elim (ℕ-discrete x (n + 64)) [
-          | yes e ↦ rw (e, after-same n l) (made-small (opAt nodes (n / 64)) having _ _ _ small
+          | yes e ↦ rw (e, after-same n l) (made-small (opAt nodes (n / 64)) _ _ _ _ (small (opAt nodes (n / 64)))
               (word-small (after n) old (getD begins (n / 64) 0) (n % 64)) (old n) (own-small (n % 64) (getD numbers (n / 64) 0)))
           | no d ↦ rw (after-other n x d) (old x)
         ]
@@ -102,15 +102,15 @@ module _ (nodes : List Node) (having begins numbers : List ℕ) where
     word-stays p q v l lv h = ap (λ (x : ℕ). cond (ltb q 33) x 0) (sym (entry-stays (p * 64 + v) (q * 64 + v) (omega arith) (omega arith)))
 
     pub word-made : (p v : ℕ) → p < len → v < 64 → getD begins p 0 ≤ p
-        → wordAt words (suc p) v ≡ madeOf (opAt nodes p) having (wordAt words (getD begins p 0) v) (wordAt words p v) (ownOf v (getD numbers p 0))
+        → wordAt words (suc p) v ≡ madeOf (opAt nodes p) (leafOf (opAt nodes p) label) (wordAt words (getD begins p 0) v) (wordAt words p v) (ownOf v (getD numbers p 0))
     word-made p v l lv low =
         let m = p * 64 + v in
         at-place words (suc p) v (omega arith)
         ∙ ap (λ (x : ℕ). getD words x 0) (omega arith)
         ∙ entry-stays (suc m) (m + 64) (omega arith) (omega arith)
         ∙ after-same m (omega arith)
-        ∙ ap₂ (λ (q d : ℕ). madeOf (opAt nodes q) having (wordAt (after m) (getD begins q 0) d) (getD (after m) m 0) (ownOf d (getD numbers q 0)))
+        ∙ ap₂ (λ (q d : ℕ). madeOf (opAt nodes q) (leafOf (opAt nodes q) label) (wordAt (after m) (getD begins q 0) d) (getD (after m) m 0) (ownOf d (getD numbers q 0)))
         (omega arith) (omega arith)
-        ∙ ap₂ (λ (x y : ℕ). madeOf (opAt nodes p) having x y (ownOf v (getD numbers p 0)))
+        ∙ ap₂ (λ (x y : ℕ). madeOf (opAt nodes p) (leafOf (opAt nodes p) label) x y (ownOf v (getD numbers p 0)))
         (word-stays p (getD begins p 0) v l lv low)
         (sym (entry-stays m m (omega arith) (omega arith)) ∙ sym (at-place words p v (omega arith)))

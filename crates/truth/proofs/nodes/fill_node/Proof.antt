@@ -10,10 +10,10 @@ use Rattle.truth.proofs.nodes.fill_node.Statement.{statement}
 use Rattle.truth.proofs.nodes.fill_node.Tie as tie
 
 abbrev Inv-loop : tie.InvT-loop
-Inv-loop op having first number at words₀ v₀ words v = (v ≤ 64) × (words ≡ nodeFilled op having first number at words₀ v)
+Inv-loop op leaf first number at words₀ v₀ words v = (v ≤ 64) × (words ≡ nodeFilled op leaf first number at words₀ v)
 
 abbrev μ-loop : tie.MeasureT-loop
-μ-loop op having first number at words₀ v₀ words v = 64 - v
+μ-loop op leaf first number at words₀ v₀ words v = 64 - v
 
 loop-holds : tie.Need-loop-holds Inv-loop μ-loop
 unfolding nodeFilled

@@ -10,11 +10,11 @@ use Rattle.truth.proofs.nodes.node_words.Statement.{statement}
 use Rattle.truth.proofs.nodes.node_words.Tie as tie
 
 abbrev Inv-loop : tie.InvT-loop
-Inv-loop having begins numbers rule len words₀ at₀ words at =
-    (at ≤ len) × (words ≡ nodesAfter (rule .nodes) having begins numbers (at * 64))
+Inv-loop label begins numbers rule len words₀ at₀ words at =
+    (at ≤ len) × (words ≡ nodesAfter (rule .nodes) label begins numbers (at * 64))
 
 abbrev μ-loop : tie.MeasureT-loop
-μ-loop having begins numbers rule len words₀ at₀ words at = len - at
+μ-loop label begins numbers rule len words₀ at₀ words at = len - at
 
 loop-holds : tie.Need-loop-holds Inv-loop μ-loop
 unfolding nodesAfter
@@ -22,9 +22,10 @@ loop-holds c = (zero-le, refl)
 
 loop-again : tie.Need-loop-again Inv-loop μ-loop
 loop-again c =
-    let read = c .before .before in (
+    let read = c .before .before in
+    let leaf = read .before .before .before .before in (
       omega arith,
-      nodes-turn _ _ _ _ _ _ _ _ _ (read .before .before .before .before .before .before .loop .inv .1) (read .before .before .entry .ensures)
+      nodes-turn _ _ _ _ _ _ _ _ _ _ (leaf .before .before .before .loop .inv .1) (leaf .leaf .ensures) (read .before .before .entry .ensures)
           (read .entry2 .ensures) (c .fill-node .ensures),
     )
 
@@ -35,4 +36,4 @@ pub node-words-spec : {M : Type 1} → statement M
 node-words-spec =
     tie.close (tie.spec
     Inv-loop μ-loop loop-holds (λ c. search needs) (λ c. search needs) (λ c κs. search needs) (λ c κs. search needs)
-    (λ c κs. search needs) (λ c. search needs) (λ c. search needs) loop-again returns)
+    (λ c κs. search needs) (λ c κs. search needs) (λ c. search needs) (λ c. search needs) loop-again returns)

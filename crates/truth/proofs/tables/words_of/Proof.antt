@@ -4,7 +4,7 @@ use Rattle.truth.proofs.tables.words_of.Statement.{statement}
 use Rattle.truth.proofs.tables.words_of.Tie as tie
 
 returns : tie.Need-returns
-returns c = rw (c .node-words .ensures, c .before .before .before .before .before .propositions .ensures)
+returns c = c .node-words .ensures
 
 pub words-of-spec : {M : Type 1} → statement M
-words-of-spec = tie.close (tie.spec (λ c κs. search needs) (λ c κs. search needs) returns)
+words-of-spec = tie.close (tie.spec (λ c κs. search needs) returns)
