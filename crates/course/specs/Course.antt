@@ -1,9 +1,8 @@
 -- A log, line by line from a monitor on: what the calls give, one step after the other, up to the first event that is refused.
-use Prim.Native.Nat.{ℕ, zero, suc, _/_, _%_}
+use Prim.Native.Nat.{ℕ, zero, suc, _%_}
 use mathlib.Core.Path.{_≡_}
 use mathlib.Core.Bool.{Bool, true, false}
 use mathlib.Core.List.{List, [], _∷_, _++_, map}
-use lib.ListN.{length}
 use Rattle.pairs.specs.declared.Pairs.{Pairs}
 use Rattle.model.specs.Sets.{PairSet}
 use Rattle.answers.specs.declared.Kind.the-variants.{Event as EventKind}
@@ -17,7 +16,8 @@ use Rattle.plant.specs.declared.Plant.{Plant}
 use Rattle.syntax.specs.declared.Rule.{Rule}
 use Rattle.log.specs.declared.Event.{Event}
 use Rattle.log.specs.Legal.{legalOf}
-use Rattle.log.specs.Read.{eventAt}
+use Rattle.text.specs.Number.{widthOf}
+use Rattle.log.specs.Read.{eventAt, wholeLines}
 use Rattle.checks.specs.Checks.{inputOutcome}
 use Rattle.ways.specs.declared.Ways.{Ways}
 use Rattle.advance.specs.declared.Monitor.{Monitor}
@@ -48,9 +48,9 @@ unfoldable pub courseTo : (Monitor → Event → Watched) → Monitor → (ℕ �
 courseTo step m event zero = record { went = record { outcome = Accepted; done = 0; monitor = m }; lamps = [] }
 courseTo step m event (suc n) = goOn step (courseTo step m event n) (event n) (courseTo step m event n .went .outcome)
 
--- THE COURSE OF A LOG: the public step, line after line
+-- THE COURSE OF A LOG: the public step, line after line, each as wide as the table's propositions ask for
 abbrev pub courseOf : Plant → List ℕ → List ℕ → List ℕ → Rule → Pairs → Monitor → List ℕ → Course
-courseOf p fair label next rule live m text = courseTo (stepOf p fair label next rule live) m (eventAt 2 text) (length text / 20)
+courseOf p fair label next rule live m text = courseTo (stepOf p fair label next rule live) m (eventAt (widthOf (p .props)) text) (wholeLines (widthOf (p .props)) text)
 
 -- the bytes of the verdicts' numbers, and of `left`
 abbrev pub verdictBytes : List Lamp → List ℕ
@@ -82,4 +82,4 @@ abbrev pub turn : Plant → List ℕ → List ℕ → Ways → Pairs → Monitor
 turn p label next w live m e = turnOf (legalOf e (p .props)) m (advancedIn (p .start) label next w (live .words) m e)
 
 abbrev pub courseIn : Plant → List ℕ → List ℕ → Ways → Pairs → Monitor → List ℕ → Course
-courseIn p label next w live m text = courseTo (turn p label next w live) m (eventAt 2 text) (length text / 20)
+courseIn p label next w live m text = courseTo (turn p label next w live) m (eventAt (widthOf (p .props)) text) (wholeLines (widthOf (p .props)) text)

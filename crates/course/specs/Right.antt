@@ -1,5 +1,5 @@
 -- The course by what a rule says is the course by the calls; and what callers ask of a course.
-use Prim.Native.Nat.{ℕ, zero, suc, _+_, _/_}
+use Prim.Native.Nat.{ℕ, zero, suc, _+_}
 use native.Mathlib.Nat.{zero-add, suc-add}
 use mathlib.Core.Path.{_≡_, refl, sym, ap, subst, _∙_}
 use mathlib.Core.Bool.{Bool, true, false}
@@ -17,7 +17,8 @@ use Rattle.plant.specs.declared.Plant.{Plant}
 use Rattle.syntax.specs.declared.Rule.{Rule}
 use Rattle.log.specs.declared.Event.{Event}
 use Rattle.log.specs.Legal.{legalOf}
-use Rattle.log.specs.Read.{eventAt}
+use Rattle.text.specs.Number.{widthOf}
+use Rattle.log.specs.Read.{eventAt, wholeLines}
 use Rattle.checks.proofs.Input.{Input, input-accepted}
 use Rattle.checks.proofs.Given.{right, ready}
 use Rattle.truth.specs.Ready.{Ready}
@@ -106,7 +107,7 @@ module _ (p : Plant) (fair label next : List ℕ) (rule : Rule) (full : length (
   pub followed : {w : Ways} → w ≡ waysOf label rule → (text : List ℕ) {verdicts₀ lefts₀ verdicts lefts : List ℕ} {r : Went}
       → Followed (courseIn p label next w live m text) verdicts₀ lefts₀ verdicts lefts r → Followed (courseOf p fair label next rule live m text) verdicts₀ lefts₀ verdicts lefts r
   followed e text {verdicts₀} {lefts₀} {verdicts} {lefts} {r} h =
-      subst (λ (c : Course). Followed c verdicts₀ lefts₀ verdicts lefts r) (as-called p fair label next rule given-by live (g .lives) m (g .held) (eventAt 2 text) (length text / 20)) (rw e at h)
+      subst (λ (c : Course). Followed c verdicts₀ lefts₀ verdicts lefts r) (as-called p fair label next rule given-by live (g .lives) m (g .held) (eventAt (widthOf (p .props)) text) (wholeLines (widthOf (p .props)) text)) (rw e at h)
 
 -- ---- for callers
 

@@ -15,6 +15,7 @@ use Rattle.answers.specs.Paper.{numberOf, refusedAt}
 use Rattle.plant.specs.declared.Plant.{Plant}
 use Rattle.log.specs.declared.Event.{Event}
 use Rattle.log.specs.Legal.{legalOf}
+use Rattle.text.specs.Number.{widthOf}
 use Rattle.log.specs.Read.{eventAt}
 use Rattle.ways.specs.declared.Ways.{Ways}
 use Rattle.advance.specs.declared.Monitor.{Monitor}
@@ -36,8 +37,11 @@ byte-more F ls old shown many e =
     rw (e, map-append) (subst (λ (k : ℕ). set (laid (map F ls) old) k (F shown) ≡ laid (map F ls ++ F shown ∷ []) old) (length-map ls F ∙ many) (laid-more (map F ls) old (F shown)))
 
 module _ (p : Plant) (label next : List ℕ) (w : Ways) (live : Pairs) (m : Monitor) (text verdicts₀ lefts₀ : List ℕ) where
+  abbrev event : ℕ → Event
+  event = eventAt (widthOf (p .props)) text
+
   abbrev at : ℕ → Course
-  at n = courseTo (turn p label next w live) m (eventAt 2 text) n
+  at n = courseTo (turn p label next w live) m event n
 
   -- behind n lines, all of which were taken
   pub record Gone (n : ℕ) (now : Monitor) (verdicts lefts : List ℕ) : Type 0 where
@@ -51,7 +55,7 @@ module _ (p : Plant) (label next : List ℕ) (w : Ways) (live : Pairs) (m : Moni
   unfolding courseTo laid
   starts = record { lamps = []; is = refl; many = refl; verdicts-are = refl; lefts-are = refl }
 
-  module _ {n : ℕ} {now : Monitor} {verdicts lefts : List ℕ} (g : Gone n now verdicts lefts) {e : Event} (line : e ≡ eventAt 2 text n) where
+  module _ {n : ℕ} {now : Monitor} {verdicts lefts : List ℕ} (g : Gone n now verdicts lefts) {e : Event} (line : e ≡ event n) where
     -- the next line, by whether its event is legal
     on : (b : Bool) → legalOf e (p .props) ≡ b
         → at (suc n) ≡ takes (standing now (g .lamps)) (turnOf b now (advancedIn (p .start) label next w (live .words) now e)) (turnOf b now (advancedIn (p .start) label next w (live .words) now e) .answer)
@@ -77,7 +81,7 @@ module _ (p : Plant) (label next : List ℕ) (w : Ways) (live : Pairs) (m : Moni
         → Followed (at last) verdicts₀ lefts₀ verdicts lefts (record { outcome = Refused r; done = n; monitor = now })
     stops last legal before refused =
         let stopped = on false legal in
-        let same : at last ≡ at (suc n) = rw (rest) (stays (turn p label next w live) m (eventAt 2 text) (suc n) (last - suc n) (ap (λ (c : Course). c .went .outcome) stopped)) in
+        let same : at last ≡ at (suc n) = rw (rest) (stays (turn p label next w live) m event (suc n) (last - suc n) (ap (λ (c : Course). c .went .outcome) stopped)) in
         rw (same ∙ stopped) (record { went = rw (refused, g .many) refl; verdicts-are = g .verdicts-are; lefts-are = g .lefts-are })
       where
         rest : last ≡ last - suc n + suc n
@@ -90,6 +94,6 @@ module _ (p : Plant) (label next : List ℕ) (w : Ways) (live : Pairs) (m : Moni
   pub lefts-long : {n : ℕ} {now : Monitor} {verdicts lefts : List ℕ} → Gone n now verdicts lefts → length lefts ≡ length lefts₀
   lefts-long g = rw (g .lefts-are) (laid-length _ _)
 
-  pub ends : {n : ℕ} {now : Monitor} {verdicts lefts : List ℕ} → Gone n now verdicts lefts → (last : ℕ) → n ≡ last
-      → Followed (at last) verdicts₀ lefts₀ verdicts lefts (record { outcome = Accepted; done = last; monitor = now })
-  ends g last e = rw (← e, g .is) (record { went = rw (g .many) refl; verdicts-are = g .verdicts-are; lefts-are = g .lefts-are })
+  pub ends : {n : ℕ} {now : Monitor} {verdicts lefts : List ℕ} → Gone n now verdicts lefts → (last : ℕ) {done : ℕ} → n ≡ done → done ≡ last
+      → Followed (at last) verdicts₀ lefts₀ verdicts lefts (record { outcome = Accepted; done = done; monitor = now })
+  ends g last e f = rw (← f, ← e, g .is) (record { went = rw (g .many) refl; verdicts-are = g .verdicts-are; lefts-are = g .lefts-are })

@@ -6,7 +6,6 @@ use advance::lamp;
 use answers::Kind;
 use answers::Outcome;
 use answers::Refusal;
-use log::Event;
 use pairs::Pairs;
 use plant::Plant;
 use syntax::Rule;
@@ -51,9 +50,9 @@ fn turns(
         (now (verdicts .entry)) (now (lefts .entry)) (now (verdicts .exit)) (now (lefts .exit)) r ⌝ }
 {
     let mut now = monitor;
-    let lines = text.len() / Event::BYTES;
+    let lines = text.len() / log::line_bytes(plant.props);
     for n in 0..lines {
-        let event = log::event_at(text, n);
+        let event = log::event_at(text, n, plant.props);
         if !log::is_legal(event, plant.props) {
             return Went {
                 outcome: Outcome::Refused(Refusal::at(Kind::Event, 0)),

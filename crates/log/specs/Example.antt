@@ -16,3 +16,8 @@ line-text = refl
 pub capital-line : smallOf (logSlots 2 (record { see = 175; val = 10; new = true } ∷ [])) (115 ∷ 101 ∷ 101 ∷ 61 ∷ 97 ∷ 70 ∷ 32 ∷ 118 ∷ 97 ∷ 108 ∷ 61 ∷ 48 ∷ 65 ∷ 32 ∷ 110 ∷ 101 ∷ 119 ∷ 61 ∷ 49 ∷ 10 ∷ []) ≡ logText 2 (record { see = 175; val = 10; new = true } ∷ [])
 unfolding written digitByte digitValue small smallOf hexSlots leadOf nextOf lastOf countSlots logSlots
 capital-line = refl
+
+-- with four digits, `see=0003 val=8001 new=1` and LF
+pub wide-line : logText 4 (record { see = 3; val = 32769; new = true } ∷ []) ≡ 115 ∷ 101 ∷ 101 ∷ 61 ∷ 48 ∷ 48 ∷ 48 ∷ 51 ∷ 32 ∷ 118 ∷ 97 ∷ 108 ∷ 61 ∷ 56 ∷ 48 ∷ 48 ∷ 49 ∷ 32 ∷ 110 ∷ 101 ∷ 119 ∷ 61 ∷ 49 ∷ 10 ∷ []
+unfolding written digitByte hexSlots leadOf nextOf lastOf countSlots logSlots
+wide-line = refl

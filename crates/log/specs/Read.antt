@@ -1,6 +1,7 @@
 -- What reading a log gives.
-use Prim.Native.Nat.{ℕ}
+use Prim.Native.Nat.{ℕ, _/_}
 use mathlib.Core.List.{List}
+use lib.ListN.{length}
 use Rattle.text.specs.LinesRead.{linesRead, lineOr}
 use Rattle.log.specs.Line.{line, lineBytes}
 use Rattle.log.specs.Log.{nothing}
@@ -26,6 +27,10 @@ acceptedLog n = record { outcome = Accepted; lines = n }
 -- 12 where the text stops to fit lines of w digits, and else how many there are
 unfoldable pub logRead : ℕ → List ℕ → LogRead
 logRead w s = linesRead (line w) (lineBytes w) refusedLog acceptedLog s
+
+-- how many whole lines of w digits a text has room for
+abbrev pub wholeLines : ℕ → List ℕ → ℕ
+wholeLines w s = length s / lineBytes w
 
 -- the event of a line, and one that sees nothing beyond the last whole line
 unfoldable pub eventAt : ℕ → List ℕ → ℕ → Event

@@ -6,10 +6,13 @@ use text::Cursor;
 use text::count;
 use text::expect_all;
 use text::hex;
+use text::width_of;
 ghost use mathlib.Core.Path.{_≡_};
+ghost use Prim.Native.Nat.{_≤_};
 ghost use Rattle.log.specs.Legal.{legalOf};
 ghost use Rattle.text.specs.LinesRead.{IsLine};
-ghost use Rattle.log.specs.Line.{line};
+ghost use Rattle.text.specs.Number.{widthOf};
+ghost use Rattle.log.specs.Line.{line, lineBytes};
 ghost use Rattle.log.specs.Read.{logRead, eventAt};
 
 // Which propositions are seen, those of them seen to hold, and whether it is a restart.
@@ -20,8 +23,8 @@ pub struct Event {
 }
 
 impl Event {
-    // How many bytes a line has.
-    pub const BYTES: usize = 20;
+    // The most propositions that an event can see.
+    pub const PROPS: usize = 16;
 
     // The event that sees nothing.
     pub const NOTHING: Event = Event {
@@ -43,25 +46,41 @@ struct Line {
     good: usize,
 }
 
-// Whether the event sees propositions below `props` alone and gives 1 to none but those seen. An event has room for 16 propositions: for a larger count, which no table has, none is legal.
+// Whether the event sees propositions below `props` alone and gives 1 to none but those seen. For more propositions than it can see, which no table has, none is legal.
 pub fn is_legal(event: Event, props: usize) -> bool
     ensures { λ r. ⌜ r ≡ legalOf event props ⌝ }
 {
-    if 16 < props {
+    if Event::PROPS < props {
         return false;
     }
     let below = (event.see as u64) < words::single(props);
     below & (event.val & event.see == event.val)
 }
 
-// The line that a text begins with. It never fails: `good` tells how far the text fits.
-fn read_line(text: &[u8]) -> Line
-    ensures { λ r. ⌜ IsLine (line 2) (now (text .entry)) (r .event) (r .good) ⌝ }
+// How many bytes a line of so many digits has.
+fn bytes_of(width: usize) -> usize
+    requires { ⌜ width ≤ 4 ⌝ }
+    ensures { λ r. ⌜ r ≡ lineBytes width ⌝ }
+{
+    16 + (width + width)
+}
+
+// How many bytes a line has where there are so many propositions: 20, or 24.
+pub fn line_bytes(props: usize) -> usize
+    ensures { λ r. ⌜ r ≡ lineBytes (widthOf props) ⌝ }
+{
+    bytes_of(width_of(props))
+}
+
+// The line of so many digits that a text begins with. It never fails: `good` tells how far the text fits.
+fn read_line(text: &[u8], width: usize) -> Line
+    requires { ⌜ width ≤ 4 ⌝ }
+    ensures { λ r. ⌜ IsLine (line width) (now (text .entry)) (r .event) (r .good) ⌝ }
 {
     let a = expect_all(text, Cursor::START, b"see=");
-    let see = hex(text, a, 2);
+    let see = hex(text, a, width);
     let b = expect_all(text, see.next, b" val=");
-    let val = hex(text, b, 2);
+    let val = hex(text, b, width);
     let d = expect_all(text, val.next, b" new=");
     let new = count(text, d, 10, 0, 1);
     let end = new.next;
@@ -76,22 +95,24 @@ fn read_line(text: &[u8]) -> Line
     }
 }
 
-// Checks the form of a whole log, of any number of lines.
-pub fn read_log(text: &[u8]) -> LogRead
-    ensures { λ r. ⌜ r ≡ logRead 2 (now (text .entry)) ⌝ }
+// Checks the form of lines of so many digits.
+fn read_lines(text: &[u8], width: usize) -> LogRead
+    requires { ⌜ width ≤ 4 ⌝ }
+    ensures { λ r. ⌜ r ≡ logRead width (now (text .entry)) ⌝ }
 {
+    let bytes = bytes_of(width);
     let mut at = 0;
     let mut lines = 0;
     while at < text.len() {
-        let line = read_line(&text[at..]);
+        let line = read_line(&text[at..], width);
         let good = line.good;
-        if good < Event::BYTES {
+        if good < bytes {
             return LogRead {
                 outcome: Outcome::Refused(Refusal::at(Kind::LogText, at + good)),
                 lines: 0,
             };
         }
-        at += Event::BYTES;
+        at += bytes;
         lines += 1;
     }
     LogRead {
@@ -100,14 +121,30 @@ pub fn read_log(text: &[u8]) -> LogRead
     }
 }
 
-// The event of a line, counted from 0; one that sees nothing beyond the last whole line.
-pub fn event_at(text: &[u8], line: usize) -> Event
-    ensures { λ r. ⌜ r ≡ eventAt 2 (now (text .entry)) line ⌝ }
+// Checks the form of a whole log, of any number of lines, for so many propositions.
+pub fn read_log(text: &[u8], props: usize) -> LogRead
+    ensures { λ r. ⌜ r ≡ logRead (widthOf props) (now (text .entry)) ⌝ }
 {
-    if line < text.len() / Event::BYTES {
-        let at = line * Event::BYTES;
-        let read = read_line(&text[at..]);
+    read_lines(text, width_of(props))
+}
+
+// The event of a line of so many digits.
+fn event_in(text: &[u8], line: usize, width: usize) -> Event
+    requires { ⌜ width ≤ 4 ⌝ }
+    ensures { λ r. ⌜ r ≡ eventAt width (now (text .entry)) line ⌝ }
+{
+    let bytes = bytes_of(width);
+    if line < text.len() / bytes {
+        let at = line * bytes;
+        let read = read_line(&text[at..], width);
         return read.event;
     }
     Event::NOTHING
+}
+
+// The event of a line, counted from 0, for so many propositions; one that sees nothing beyond the last whole line.
+pub fn event_at(text: &[u8], line: usize, props: usize) -> Event
+    ensures { λ r. ⌜ r ≡ eventAt (widthOf props) (now (text .entry)) line ⌝ }
+{
+    event_in(text, line, width_of(props))
 }

@@ -77,7 +77,8 @@ fn with_rule(table: Table, rule: Rule, text: &mut [u8]) -> Given
 {
     let file = files::read_file(b"log.txt", text);
     let len = file.len;
-    let outcome = texts::check_log(file.ok, &text[..len]);
+    let plant = table.plant;
+    let outcome = texts::check_log(file.ok, &text[..len], plant.props);
     Given {
         outcome,
         table,

@@ -1,7 +1,6 @@
 // Where a log ends: the calls, one after the other, and the log by the one loop over its lines.
 use advance::Monitor;
 use answers::Outcome;
-use log::Event;
 use pairs::Pairs;
 use plant::Plant;
 use syntax::Rule;
@@ -65,7 +64,8 @@ fn from_start(
     );
     let outcome = went.outcome;
     let end = went.monitor;
-    let offset = went.done * Event::BYTES;
+    let done = went.done;
+    let offset = done * log::line_bytes(plant.props);
     End {
         outcome: transcript::at_line(outcome, offset),
         monitor: end,

@@ -4,7 +4,7 @@ use mathlib.Core.List.{List, [], _∷_, _++_}
 use Prim.Native.Nat.{ℕ}
 use Rattle.meaning.specs.Run.{Plant}
 use Rattle.text.specs.Slot.{written, digitByte}
-use Rattle.text.specs.Number.{hexSlots, leadOf, nextOf, lastOf, countSlots}
+use Rattle.text.specs.Number.{widthOf, hexSlots, leadOf, nextOf, lastOf, countSlots}
 use Rattle.plant.specs.Written.{tableText, linesBelow}
 
 abbrev pub plantW : Plant
@@ -25,5 +25,5 @@ textW =
     ++ (110 ∷ 101 ∷ 120 ∷ 116 ∷ 50 ∷ 61 ∷ 48 ∷ 48 ∷ 48 ∷ 48 ∷ 48 ∷ 48 ∷ 48 ∷ 48 ∷ 48 ∷ 48 ∷ 48 ∷ 48 ∷ 48 ∷ 48 ∷ 48 ∷ 53 ∷ 10 ∷ [])
 
 pub w-text : tableText plantW ≡ textW
-unfolding written digitByte hexSlots leadOf nextOf lastOf countSlots linesBelow
+unfolding written digitByte hexSlots leadOf nextOf lastOf countSlots linesBelow widthOf
 w-text = refl

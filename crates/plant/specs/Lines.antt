@@ -10,7 +10,7 @@ use Rattle.text.specs.Cases.{if-below}
 use Rattle.text.specs.Form.{led, ended}
 use Rattle.text.specs.Hex.{hex}
 use Rattle.text.specs.After.{after, goes-on}
-use Rattle.text.specs.Read.{IsHex, IsCount}
+use Rattle.text.specs.Read.{IsHex, IsCount, digits-room}
 use Rattle.text.specs.Took.{Took, took-led, took-ended, took-both, hex-took, count-took}
 use Rattle.words.specs.Below.{filled, listBelow}
 use Rattle.words.specs.Lists.{filled-at, length-filled, length-list, list-at, list-of}
@@ -34,8 +34,8 @@ abbrev pub fairAt : List ℕ → ℕ → ℕ
 fairAt s k = guessAt (field fairName 16) (fieldLength fairName 16) s k
 
 -- the label and the next states that are guessed for state k
-abbrev pub rowAt : List ℕ → ℕ → ℕ × ℕ
-rowAt s k = guessAt row rowLength s k
+abbrev pub rowAt : ℕ → List ℕ → ℕ → ℕ × ℕ
+rowAt w s k = guessAt (row w) (rowLength w) s k
 
 -- behind c the count line gives the value, in its range, and the cursor behind the line
 pub record IsCountLine (s : List ℕ) (c : Cursor) (key : List ℕ) (lo hi value : ℕ) (next : Cursor) : Type 0 where
@@ -55,11 +55,11 @@ pub record IsFair (s : List ℕ) (c : Cursor) (n : ℕ) (words : List ℕ) (end 
   pub are : words ≡ padded 4 (fairs n .guess (drop (c .at) s))
   pub at : end .at ≤ c .at + 112
 
--- the lines of n states, kept in arrays of 64
-pub record IsRows (s : List ℕ) (c : Cursor) (n : ℕ) (label next : List ℕ) (end : Cursor) : Type 0 where
-  pub took : Took (rows n) s c (rows n .guess (drop (c .at) s)) end
-  pub labels : label ≡ padded 64 (rows n .guess (drop (c .at) s) .0)
-  pub nexts : next ≡ padded 64 (rows n .guess (drop (c .at) s) .1)
+-- the lines of n states, labels of w digits, kept in arrays of 64
+pub record IsRows (s : List ℕ) (c : Cursor) (w n : ℕ) (label next : List ℕ) (end : Cursor) : Type 0 where
+  pub took : Took (rows w n) s c (rows w n .guess (drop (c .at) s)) end
+  pub labels : label ≡ padded 64 (rows w n .guess (drop (c .at) s) .0)
+  pub nexts : next ≡ padded 64 (rows w n .guess (drop (c .at) s) .1)
 
 pub count-line :
     {s : List ℕ} {c d e : Cursor} {key : List ℕ} {lo hi v : ℕ} → (d ≡ after s c (word key)) × (d .at ≡ c .at + length key) → length key ≤ 8
@@ -113,21 +113,25 @@ fair-done s c e n words p w l =
     }
 
 pub row-turn :
-    (s : List ℕ) (c d e f : Cursor) (k v w : ℕ) → d ≡ after s c (slotsBelow row k (rowAt (drop (c .at) s)))
-    → IsHexLine s d (keySlots labelName k) 2 v e × (e .at ≤ d .at + 28) → IsHexLine s e (keySlots nextName k) 16 w f × (f .at ≤ e .at + 28)
-    → ((v, w) ≡ rowAt (drop (c .at) s) k) × (f ≡ after s c (slotsBelow row (k + 1) (rowAt (drop (c .at) s))))
-row-turn s c d e f k v w p g h =
-    below-turn row rowLength row-fixed row-reads s c d f k (v, w) p (took-both (λ l. field nextName 16 k) (g .0 .took) (h .0 .took))
+    (w : ℕ) (s : List ℕ) (c d e f : Cursor) (k v x : ℕ) → d ≡ after s c (slotsBelow (row w) k (rowAt w (drop (c .at) s)))
+    → IsHexLine s d (keySlots labelName k) w v e × (e .at ≤ d .at + 28) → IsHexLine s e (keySlots nextName k) 16 x f × (f .at ≤ e .at + 28)
+    → ((v, x) ≡ rowAt w (drop (c .at) s) k) × (f ≡ after s c (slotsBelow (row w) (k + 1) (rowAt w (drop (c .at) s))))
+row-turn w s c d e f k v x p g h =
+    below-turn (row w) (rowLength w) (row-fixed w) (row-reads w) s c d f k (v, x) p (took-both (λ l. field nextName 16 k) (g .0 .took) (h .0 .took))
 
 pub rows-done :
-    (s : List ℕ) (c e : Cursor) (n : ℕ) (label next : List ℕ) → e ≡ after s c (slotsBelow row n (rowAt (drop (c .at) s)))
-    → label ≡ filled 64 n (λ k. rowAt (drop (c .at) s) k .0) → next ≡ filled 64 n (λ k. rowAt (drop (c .at) s) k .1) → IsRows s c n label next e
+    (w : ℕ) (s : List ℕ) (c e : Cursor) (n : ℕ) (label next : List ℕ) → e ≡ after s c (slotsBelow (row w) n (rowAt w (drop (c .at) s)))
+    → label ≡ filled 64 n (λ k. rowAt w (drop (c .at) s) k .0) → next ≡ filled 64 n (λ k. rowAt w (drop (c .at) s) k .1) → IsRows s c w n label next e
 unfolding listed
-rows-done s c e n label next p l m =
+rows-done w s c e n label next p l m =
     record {
-      took = listed-goes row rowLength row-fixed n (λ p. (length (p .0) ≡ n) × (length (p .1) ≡ n)) (λ p k. (getD (p .0) k 0, getD (p .1) k 0))
+      took = listed-goes (row w) (rowLength w) (row-fixed w) n (λ p. (length (p .0) ≡ n) × (length (p .1) ≡ n)) (λ p k. (getD (p .0) k 0, getD (p .1) k 0))
           (λ f. (listBelow n (λ k. f k .0), listBelow n (λ k. f k .1))) (λ f. (length-list n (λ k. f k .0), length-list n (λ k. f k .1)))
           (λ f k l. ap₂ (λ (x y : ℕ). (x, y)) (list-at n (λ k. f k .0) k l) (list-at n (λ k. f k .1) k l)) s c e p;
-      labels = l ∙ filled-padded 64 n (λ k. rowAt (drop (c .at) s) k .0);
-      nexts = m ∙ filled-padded 64 n (λ k. rowAt (drop (c .at) s) k .1);
+      labels = l ∙ filled-padded 64 n (λ k. rowAt w (drop (c .at) s) k .0);
+      nexts = m ∙ filled-padded 64 n (λ k. rowAt w (drop (c .at) s) k .1);
     }
+
+-- a label of at most four digits fits its word
+pub label-room : (s : List ℕ) (c d : Cursor) (key : List Slot) (w v : ℕ) → IsHexLine s c key w v d → w ≤ 4 → v < 65536
+label-room s c d key w v h l = digits-room v w 4 (h .small) l

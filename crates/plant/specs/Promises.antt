@@ -15,6 +15,8 @@ use Rattle.answers.specs.declared.Outcome.{Outcome}
 use Rattle.answers.specs.declared.Outcome.the-variants.{Accepted, Refused}
 use Rattle.answers.specs.Paper.{refusedAt}
 use Rattle.text.specs.Slot.{Slot, matched}
+use Rattle.text.specs.Cases.{if-below}
+use Rattle.text.specs.Number.{widthOf}
 use Rattle.text.specs.Written.{smallOf}
 use Rattle.text.specs.Place.{Fills, OfForm, RefusedAt, reads-whole, misfits, fills-exactly, form-value, refused-one}
 use Rattle.text.specs.Promises.{WrittenOut, fitOf, written-small, form-or-place, filled-out, of-form-out, out-one}
@@ -69,6 +71,7 @@ well-counted t w =
 
 -- a table that 01 accepts can be written
 pub accepted-formed : (t : run.Plant) → AcceptedTable t → WellFormed t
+unfolding widthOf
 accepted-formed t a =
     record {
       props = (a .some-props, a .few-props);
@@ -79,13 +82,16 @@ accepted-formed t a =
       labels = a .labels;
       nexts = a .nexts;
       row = λ k l. (
-        wide 8 (getD (t .label) k 0) (a .few-props) (a .label-sets k (rw (a .labels) l)),
+        label-wide (getD (t .label) k 0) (a .label-sets k (rw (a .labels) l)),
         wide 64 (getD (t .next) k 0) (a .few-states) (a .next-sets k (rw (a .nexts) l)),
       );
     }
   where
     wide : {n : ℕ} (m x : ℕ) → n ≤ m → x < 2 ^ n → x < 2 ^ m
     wide m x h l = lt-of-lt-of-le l (pow-mono h)
+
+    label-wide : (x : ℕ) → x < 2 ^ t .props → x < 16 ^ widthOf (t .props)
+    label-wide x l = if-below 8 (t .props) (λ w. x < 16 ^ w) 4 2 (λ more. wide 16 x (a .few-props) l) (λ few. wide 8 x few l)
 
 -- and passes the check
 passes : (t : run.Plant) → AcceptedTable t → checkOf t ≡ Accepted

@@ -7,6 +7,7 @@ use native.Mathlib.Omega.{arith}
 use lib.Seq.{ext-getD, getD-take}
 use lib.ListN.{length, take, drop, getD, replicate, length-take}
 use Rattle.meaning.specs.Run as run
+use Rattle.meaning.specs.Limits.{mostProps}
 use Rattle.answers.specs.declared.Kind.the-variants.{TableText}
 use Rattle.answers.specs.declared.Refusal.{Refusal}
 use Rattle.answers.specs.declared.Outcome.{Outcome}
@@ -14,6 +15,7 @@ use Rattle.answers.specs.declared.Outcome.the-variants.{Accepted, Refused}
 use Rattle.answers.specs.Paper.{refusedAt}
 use Rattle.text.specs.Slot.{word, matched}
 use Rattle.words.specs.Lists.{length-list, list-at}
+use Rattle.text.specs.Number.{widthOf}
 use Rattle.text.specs.After.{after, cursor}
 use Rattle.text.specs.Form.{led, ended, both, seen}
 use Rattle.text.specs.Hex.{hex}
@@ -75,12 +77,12 @@ pub record IsParsed (s : List ℕ) (t : Table) (end : Cursor) : Type 0 where
   pub few-states : t .plant .states ≤ 64
 
 pub parsed :
-    (s : List ℕ) (c₁ c₂ c₃ c₄ c₅ c₆ c₇ : Cursor) (props states start just : ℕ) (fair label next : List ℕ) → IsCountLine s (cursor 0 0) propsKey 1 8 props c₁
+    (s : List ℕ) (c₁ c₂ c₃ c₄ c₅ c₆ c₇ : Cursor) (props states start just : ℕ) (fair label next : List ℕ) (w : ℕ) → w ≡ widthOf props → IsCountLine s (cursor 0 0) propsKey 1 mostProps props c₁
     → IsCountLine s c₁ statesKey 1 64 states c₂ → (c₃ ≡ after s c₂ (word startKey)) × (c₃ .at ≡ c₂ .at + 6) → IsHexLine s c₃ [] 16 start c₄ × (c₄ .at ≤ c₃ .at + 17)
-    → IsCountLine s c₄ justKey 0 4 just c₅ → IsFair s c₅ just fair c₆ → IsRows s c₆ states label next c₇
+    → IsCountLine s c₄ justKey 0 4 just c₅ → IsFair s c₅ just fair c₆ → IsRows s c₆ w states label next c₇
     → IsParsed s (record { plant = record { props = props; states = states; start = start; just = just }; fair = fair; label = label; next = next }) c₇
 unfolding seen listed
-parsed s c₁ c₂ c₃ c₄ c₅ c₆ c₇ props states start just fair label next p n k st j f r =
+parsed s c₁ c₂ c₃ c₄ c₅ c₆ c₇ props states start just fair label next w wide p n k st j f r′ =
     record {
       is = same ∙ ap tableOf (all .0);
       goes = all .1 ∙ ap (λ (t : run.Plant). cursor (length (tableForm .slots t)) (matched s (tableForm .slots t))) (all .0);
@@ -88,11 +90,14 @@ parsed s c₁ c₂ c₃ c₄ c₅ c₆ c₇ props states start just fair label n
       few-states = n .high;
     }
   where
+    r : IsRows s c₆ (widthOf props) states label next c₇
+    r = rw wide at r′
+
     sets : List ℕ
     sets = fairs just .guess (drop (c₅ .at) s)
 
     pairs : List ℕ × List ℕ
-    pairs = rows states .guess (drop (c₆ .at) s)
+    pairs = rows (widthOf props) states .guess (drop (c₆ .at) s)
 
     many : length sets ≡ just
     many = length-list just _
@@ -105,10 +110,10 @@ parsed s c₁ c₂ c₃ c₄ c₅ c₆ c₇ props states start just fair label n
 
     took : Took parts s (cursor 0 0) (props, (states, (start, (just, (sets, pairs))))) c₇
     took =
-        took-both (λ props. both (countLine statesKey 1 64) (λ states. both (hexLine (word startKey) 16) (λ start. both (countLine justKey 0 4) (λ just. both (fairs just) (λ fair. rows states))))) (p .took)
-        (took-both (λ states. both (hexLine (word startKey) 16) (λ start. both (countLine justKey 0 4) (λ just. both (fairs just) (λ fair. rows states)))) (n .took)
-        (took-both (λ start. both (countLine justKey 0 4) (λ just. both (fairs just) (λ fair. rows states))) (keyed-line startKey (k .0) (st .0))
-        (took-both (λ just. both (fairs just) (λ fair. rows states)) (j .took) (took-both (λ fair. rows states) (f .took) (r .took)))))
+        took-both (λ props. both (countLine statesKey 1 64) (λ states. both (hexLine (word startKey) 16) (λ start. both (countLine justKey 0 4) (λ just. both (fairs just) (λ fair. rows (widthOf props) states))))) (p .took)
+        (took-both (λ states. both (hexLine (word startKey) 16) (λ start. both (countLine justKey 0 4) (λ just. both (fairs just) (λ fair. rows (widthOf props) states)))) (n .took)
+        (took-both (λ start. both (countLine justKey 0 4) (λ just. both (fairs just) (λ fair. rows (widthOf props) states))) (keyed-line startKey (k .0) (st .0))
+        (took-both (λ just. both (fairs just) (λ fair. rows (widthOf props) states)) (j .took) (took-both (λ fair. rows (widthOf props) states) (f .took) (r .took)))))
 
     all :
         (tableIn (props, (states, (start, (just, (sets, pairs))))) ≡ tableForm .guess s)

@@ -7,6 +7,7 @@ use lib.Bits.{bitOr}
 use lib.Dec.{eqb, leb, ltb}
 use lib.ListN.{length, getD}
 use Rattle.meaning.specs.Bit.{bit}
+use Rattle.meaning.specs.Limits.{mostProps}
 use Rattle.meaning.specs.Run as run
 use Rattle.words.specs.Below.{unionBelow}
 use Rattle.answers.specs.declared.Kind.{Kind}
@@ -25,7 +26,7 @@ plantOf p fair label next = record { props = p .props; states = p .states; start
 -- the counts are in range, and the parts have their lengths
 abbrev pub countsOf : Plant → ℕ → ℕ → ℕ → Bool
 countsOf p fair label next =
-    (((leb 1 (p .props) && leb (p .props) 8) && (leb 1 (p .states) && leb (p .states) 64)) && (leb (p .just) 4 && eqb fair (p .just)))
+    (((leb 1 (p .props) && leb (p .props) mostProps) && (leb 1 (p .states) && leb (p .states) 64)) && (leb (p .just) 4 && eqb fair (p .just)))
     && (eqb label (p .states) && eqb next (p .states))
 
 -- the union of all sets of a list
@@ -51,7 +52,7 @@ tableOutcome p fair label next = cond (countsOf p (length fair) (length label) (
 -- the counts are in range
 pub record InRange (p : Plant) : Type 0 where
   pub some-props : 1 ≤ p .props
-  pub props : p .props ≤ 8
+  pub props : p .props ≤ mostProps
   pub some-states : 1 ≤ p .states
   pub states : p .states ≤ 64
   pub just : p .just ≤ 4

@@ -5,8 +5,9 @@ use mathlib.Core.List.{List, [], _∷_, _++_}
 use native.Mathlib.Omega.{arith}
 use lib.ListN.{length, getD, length-append}
 use Rattle.meaning.specs.Run.{Plant}
+use Rattle.meaning.specs.Limits.{mostProps}
 use Rattle.text.specs.Slot.{Slot, exactly, word, digitValue}
-use Rattle.text.specs.Number.{hexSlots, countSlots}
+use Rattle.text.specs.Number.{widthOf, hexSlots, countSlots}
 use Rattle.text.specs.Form.{Form, Reads, led, ended, both, seen, reads-led, reads-ended, reads-both, reads-seen}
 use Rattle.text.specs.Hex.{hex, hex-reads, hex-length}
 use Rattle.text.specs.Count.{counted, count-reads}
@@ -60,9 +61,9 @@ nextName = 110 ∷ 101 ∷ 120 ∷ 116 ∷ []
 
 -- ---- the parts
 
--- the two lines of state k
-abbrev pub row : ℕ → Form (ℕ × ℕ)
-row k = both (field labelName 2 k) (λ l. field nextName 16 k)
+-- the two lines of state k, the label of w digits
+abbrev pub row : ℕ → ℕ → Form (ℕ × ℕ)
+row w k = both (field labelName w k) (λ l. field nextName 16 k)
 
 abbrev pub fieldLength : List ℕ → ℕ → ℕ → ℕ
 fieldLength name w k = length (keySlots name k) + (w + 1)
@@ -71,28 +72,28 @@ pub field-fixed : (name : List ℕ) (w k a : ℕ) → field name w k .Ok a → l
 unfolding led ended hex
 field-fixed name w k a ok = omega (arith, length-append (keySlots name k) (hexSlots w a ++ lf), length-append (hexSlots w a) lf, hex-length w a)
 
-abbrev pub rowLength : ℕ → ℕ
-rowLength k = fieldLength labelName 2 k + fieldLength nextName 16 k
+abbrev pub rowLength : ℕ → ℕ → ℕ
+rowLength w k = fieldLength labelName w k + fieldLength nextName 16 k
 
-pub row-fixed : (k : ℕ) (p : ℕ × ℕ) → row k .Ok p → length (row k .slots p) ≡ rowLength k
+pub row-fixed : (w k : ℕ) (p : ℕ × ℕ) → row w k .Ok p → length (row w k .slots p) ≡ rowLength w k
 unfolding both
-row-fixed k p ok =
-    omega (arith, length-append (field labelName 2 k .slots (p .0)) (field nextName 16 k .slots (p .1)), field-fixed labelName 2 k (p .0) (ok .0), field-fixed nextName 16 k (p .1) (ok .1))
+row-fixed w k p ok =
+    omega (arith, length-append (field labelName w k .slots (p .0)) (field nextName 16 k .slots (p .1)), field-fixed labelName w k (p .0) (ok .0), field-fixed nextName 16 k (p .1) (ok .1))
 
 pub field-reads : (name : List ℕ) (w k : ℕ) → Reads (field name w k)
 field-reads name w k = reads-led (reads-ended (hex-reads w) lf) (keySlots name k)
 
-pub row-reads : (k : ℕ) → Reads (row k)
-row-reads k = reads-both (field-reads labelName 2 k) (λ l ok. field-reads nextName 16 k)
+pub row-reads : (w k : ℕ) → Reads (row w k)
+row-reads w k = reads-both (field-reads labelName w k) (λ l ok. field-reads nextName 16 k)
 
 -- the lines of the fairness sets
 abbrev pub fairs : ℕ → Form (List ℕ)
 fairs n = listed (field fairName 16) (fieldLength fairName 16) n (λ l. length l ≡ n) (λ l k. getD l k 0) (listBelow n)
 
 -- the lines of the states, labels and next states each in a list
-abbrev pub rows : ℕ → Form (List ℕ × List ℕ)
-rows n =
-    listed row rowLength n (λ p. (length (p .0) ≡ n) × (length (p .1) ≡ n)) (λ p k. (getD (p .0) k 0, getD (p .1) k 0))
+abbrev pub rows : ℕ → ℕ → Form (List ℕ × List ℕ)
+rows w n =
+    listed (row w) (rowLength w) n (λ p. (length (p .0) ≡ n) × (length (p .1) ≡ n)) (λ p k. (getD (p .0) k 0, getD (p .1) k 0))
     (λ f. (listBelow n (λ k. f k .0), listBelow n (λ k. f k .1)))
 
 pub fairs-read : (n : ℕ) → Reads (fairs n)
@@ -100,12 +101,12 @@ fairs-read n =
     reads-listed (field fairName 16) (fieldLength fairName 16) (field-fixed fairName 16) n (λ l. length l ≡ n) (λ l k. getD l k 0) (listBelow n) (length-list n)
     (list-at n) (field-reads fairName 16) (λ l f e h. list-of n f l e h)
 
-pub rows-read : (n : ℕ) → Reads (rows n)
-rows-read n =
-    reads-listed row rowLength row-fixed n (λ p. (length (p .0) ≡ n) × (length (p .1) ≡ n)) (λ p k. (getD (p .0) k 0, getD (p .1) k 0))
+pub rows-read : (w n : ℕ) → Reads (rows w n)
+rows-read w n =
+    reads-listed (row w) (rowLength w) (row-fixed w) n (λ p. (length (p .0) ≡ n) × (length (p .1) ≡ n)) (λ p k. (getD (p .0) k 0, getD (p .1) k 0))
     (λ f. (listBelow n (λ k. f k .0), listBelow n (λ k. f k .1))) (λ f. (length-list n (λ k. f k .0), length-list n (λ k. f k .1)))
     (λ f k l. ap₂ (λ (x y : ℕ). (x, y)) (list-at n (λ k. f k .0) k l) (list-at n (λ k. f k .1) k l))
-    row-reads
+    (row-reads w)
     (λ p f e h. ap₂ (λ (l m : List ℕ). (l, m)) (list-of n (λ k. f k .0) (p .0) (e .0) (λ k l. ap (λ (q : ℕ × ℕ). q .0) (h k l)))
     (list-of n (λ k. f k .1) (p .1) (e .1) (λ k l. ap (λ (q : ℕ × ℕ). q .1) (h k l))))
 
@@ -115,20 +116,20 @@ rows-read n =
 abbrev pub Parts : Type 0
 Parts = ℕ × (ℕ × (ℕ × (ℕ × (List ℕ × (List ℕ × List ℕ)))))
 
--- the lines of a table, in their order: how many follow is told by the counts before
+-- the lines of a table, in their order: how many follow, and how many digits a label has, is told by the counts before
 abbrev pub parts : Form Parts
 parts =
-    both (countLine propsKey 1 8) (λ props. both (countLine statesKey 1 64) (λ states. both (hexLine (word startKey) 16) (λ start.
-    both (countLine justKey 0 4) (λ just. both (fairs just) (λ fair. rows states)))))
+    both (countLine propsKey 1 mostProps) (λ props. both (countLine statesKey 1 64) (λ states. both (hexLine (word startKey) 16) (λ start.
+    both (countLine justKey 0 4) (λ just. both (fairs just) (λ fair. rows (widthOf props) states)))))
 
 pub parts-read : Reads parts
 unfolding digitValue
 parts-read =
-    reads-both (reads-led (count-reads 1 8 (omega arith) (omega arith) (omega arith) 10 (omega arith)) (word propsKey)) (λ props ok.
+    reads-both (reads-led (count-reads 1 mostProps (omega arith) (omega arith) (omega arith) 10 (omega arith)) (word propsKey)) (λ props ok.
     reads-both (reads-led (count-reads 1 64 (omega arith) (omega arith) (omega arith) 10 (omega arith)) (word statesKey)) (λ states ok.
     reads-both (reads-led (reads-ended (hex-reads 16) lf) (word startKey)) (λ start ok.
     reads-both (reads-led (count-reads 0 4 (omega arith) (omega arith) (omega arith) 10 (omega arith)) (word justKey)) (λ just ok.
-    reads-both (fairs-read just) (λ fair ok. rows-read states)))))
+    reads-both (fairs-read just) (λ fair ok. rows-read (widthOf props) states)))))
 
 -- the table of these parts, and its parts
 abbrev pub tableIn : Parts → Plant

@@ -4,8 +4,9 @@ use mathlib.Core.Path.{_≡_, refl, ap}
 use mathlib.Core.List.{List, [], _++_}
 use lib.ListN.{length, getD}
 use Rattle.meaning.specs.Run.{Plant}
+use Rattle.meaning.specs.Limits.{mostProps}
 use Rattle.text.specs.Slot.{Slot, word}
-use Rattle.text.specs.Number.{hexSlots, countSlots}
+use Rattle.text.specs.Number.{widthOf, hexSlots, countSlots}
 use Rattle.text.specs.Form.{Form, led, ended, both, seen}
 use Rattle.text.specs.Hex.{hex}
 use Rattle.text.specs.Count.{counted}
@@ -13,16 +14,16 @@ use Rattle.text.specs.Many.{listed, slotsBelow}
 use Rattle.text.specs.Written.{textOf}
 use Rattle.plant.specs.Text.{tableForm, field, row, lf, keySlots, propsKey, statesKey, startKey, justKey, fairName, labelName, nextName}
 
--- counts in their ranges, a label and a set of next states for each state, sets of 16 digits and labels of 2
+-- counts in their ranges, a label and a set of next states for each state, sets of 16 digits and labels of 2 or 4
 pub record WellFormed (t : Plant) : Type 0 where
-  pub props : (1 ≤ t .props) × (t .props ≤ 8)
+  pub props : (1 ≤ t .props) × (t .props ≤ mostProps)
   pub states : (1 ≤ t .states) × (t .states ≤ 64)
   pub start : t .start < 16 ^ 16
   pub few-fair : length (t .fair) ≤ 4
   pub fair : (k : ℕ) → k < length (t .fair) → getD (t .fair) k 0 < 16 ^ 16
   pub labels : length (t .label) ≡ t .states
   pub nexts : length (t .next) ≡ t .states
-  pub row : (k : ℕ) → k < t .states → (getD (t .label) k 0 < 16 ^ 2) × (getD (t .next) k 0 < 16 ^ 16)
+  pub row : (k : ℕ) → k < t .states → (getD (t .label) k 0 < 16 ^ widthOf (t .props)) × (getD (t .next) k 0 < 16 ^ 16)
 
 -- `name`, a number, `=`, a number of so many hexadecimal digits, LF
 abbrev pub line : List ℕ → ℕ → ℕ → ℕ → List Slot
@@ -38,7 +39,7 @@ abbrev pub tableSlots : Plant → List Slot
 tableSlots t =
     (word propsKey ++ countSlots 10 (t .props)) ++ ((word statesKey ++ countSlots 10 (t .states)) ++ ((word startKey ++ (hexSlots 16 (t .start) ++ lf))
     ++ ((word justKey ++ countSlots 10 (length (t .fair))) ++ (linesBelow (length (t .fair)) (λ k. line fairName k 16 (getD (t .fair) k 0))
-    ++ linesBelow (t .states) (λ k. line labelName k 2 (getD (t .label) k 0) ++ line nextName k 16 (getD (t .next) k 0))))))
+    ++ linesBelow (t .states) (λ k. line labelName k (widthOf (t .props)) (getD (t .label) k 0) ++ line nextName k 16 (getD (t .next) k 0))))))
 
 -- the written form of a table
 abbrev pub tableText : Plant → List ℕ
@@ -53,7 +54,7 @@ below-is F (suc n) f = ap (λ (ts : List Slot). ts ++ F n .slots (f n)) (below-i
 
 pub slots-are : (t : Plant) → tableForm .slots t ≡ tableSlots t
 unfolding seen both led ended hex counted listed
-slots-are t = rw (below-is (field fairName 16), below-is row)
+slots-are t = rw (below-is (field fairName 16), below-is (row (widthOf (t .props))))
 
 pub well-formed : (t : Plant) → WellFormed t → tableForm .Ok t
 unfolding seen both led ended hex counted listed

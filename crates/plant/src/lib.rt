@@ -20,7 +20,7 @@ pub struct Plant {
 
 // The most propositions, states and fairness sets.
 impl Plant {
-    pub const PROPS: usize = 8;
+    pub const PROPS: usize = 16;
 
     pub const STATES: usize = 64;
 

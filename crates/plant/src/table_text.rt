@@ -14,6 +14,7 @@ use text::expect;
 use text::expect_all;
 use text::expect_count;
 use text::hex;
+use text::width_of;
 ghost use mathlib.Core.Path.{_≡_};
 ghost use mathlib.Core.List.{[]};
 ghost use Prim.Native.Nat.{_+_, _≤_, _<_};
@@ -89,17 +90,17 @@ fn read_fair(text: &[u8], c: Cursor, n: usize) -> Fair
     Fair { words, end: d }
 }
 
-// The lines `label` and `next` of each state.
-fn read_rows(text: &[u8], c: Cursor, n: usize) -> Rows
-    requires { ⌜ (n ≤ 64) × (c .at < 20000) ⌝ }
-    ensures { λ r. ⌜ IsRows (now (text .entry)) c n (r .label) (r .next) (r .end) ⌝ }
+// The lines `label` and `next` of each state, labels of so many digits.
+fn read_rows(text: &[u8], c: Cursor, width: usize, n: usize) -> Rows
+    requires { ⌜ (n ≤ 64) × (c .at < 20000) × (width ≤ 4) ⌝ }
+    ensures { λ r. ⌜ IsRows (now (text .entry)) c width n (r .label) (r .next) (r .end) ⌝ }
 {
     let mut label = [0u16; 64];
     let mut next = [0u64; 64];
     let mut d = c;
     let mut k = 0;
     while k < n {
-        let x = field(text, d, b"label", k, 2);
+        let x = field(text, d, b"label", k, width);
         let y = field(text, x.next, b"next", k, 16);
         label[k] = x.value as u16;
         next[k] = y.value;
@@ -123,7 +124,8 @@ fn parse(text: &[u8]) -> Parsed
     let start = hex_end(text, key, 16);
     let just = count_line(text, start.next, b"just=", 0, Plant::JUST);
     let fair = read_fair(text, just.next, just.value);
-    let rows = read_rows(text, fair.end, states.value);
+    let width = width_of(props.value);
+    let rows = read_rows(text, fair.end, width, states.value);
     let words = fair.words;
     let label = rows.label;
     let next = rows.next;

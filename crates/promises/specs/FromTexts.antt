@@ -1,5 +1,5 @@
 -- From texts to lamps: the readers give what the texts say, and the calls show the rest. Here are the two claims of FrontDoor proved.
-use Prim.Native.Nat.{ℕ, _/_}
+use Prim.Native.Nat.{ℕ}
 use mathlib.Core.Path.{_≡_, refl, sym, ap, subst, _∙_}
 use mathlib.Core.Bool.{Bool, true, false, cond}
 use mathlib.Core.List.{List, _++_}
@@ -9,6 +9,7 @@ use lib.ListN.{length, getD}
 use Rattle.meaning.specs.Formula.{Formula}
 use Rattle.meaning.specs.Run as run
 use Rattle.meaning.specs.Limits.{AcceptedTable}
+use Rattle.text.specs.Number.{widthOf}
 use Rattle.text.specs.Written.{smallOf}
 use Rattle.text.specs.Place.{Fills}
 use Rattle.text.specs.Promises.{filled-out}
@@ -42,6 +43,7 @@ use Rattle.rule.proofs.Promises as rules
 use Rattle.log.specs.declared.Event.{Event}
 use Rattle.log.specs.Line.{line, lineBytes, line-fixed}
 use Rattle.log.specs.Log.{nothing, logForm}
+use Rattle.log.specs.Read.{wholeLines}
 use Rattle.log.specs.declared.LogRead.{LogRead}
 use Rattle.log.specs.Promises as logs
 use Rattle.log.specs.Promises.{AllWritable, all-ok, log-out, small-read}
@@ -56,19 +58,19 @@ use Rattle.promises.specs.RuleEnd.{stripped, end-said, end-dropped, end-
 -- ---- the readers
 
 -- a text that fills the lines of a log has as many as it has events
-lines-many : (w : ℕ) (es : List Event) (s : List ℕ) → AllWritable w es → Fills s (logForm w .slots es) → length s / lineBytes w ≡ length es
+lines-many : (w : ℕ) (es : List Event) (s : List ℕ) → AllWritable w es → Fills s (logForm w .slots es) → wholeLines w s ≡ length es
 unfolding lines
 lines-many w es s ok fills =
     all-begun (lineBytes w) (length s) (length es) (line-fixed w .some)
     (sym (fills .long) ∙ below-length (λ j. line w) (λ j. lineBytes w) (λ j. line-fixed w .bytes) (length es) (λ k. getD es k nothing) (all-ok w es .1 ok)) .1
 
 -- a log that says events is accepted
-log-taken : {log : File} {es : List Event} (says : SaysLog log es) → Taken (says .text) es
-log-taken {log} {es} says = let read = small-read 2 es (says .text) (says .writable) (says .said) in
+log-taken : {log : File} {q : ℕ} {es : List Event} (says : SaysLog log q es) → Taken (widthOf q) (says .text) es
+log-taken {log} {q} {es} says = let read = small-read (widthOf q) es (says .text) (says .writable) (says .said) in
     record {
       accepts = ap (λ (r : LogRead). r .outcome) (read .0);
       events = read .1;
-      many = lines-many 2 es (says .text) (says .writable) (filled-out (log-out 2) es (says .text) .1 (says .said));
+      many = lines-many (widthOf q) es (says .text) (says .writable) (filled-out (log-out (widthOf q)) es (says .text) .1 (says .said));
     }
 
 module _ (t : run.Plant) (table : AcceptedTable t) where
@@ -131,7 +133,7 @@ module _ (t : run.Plant) (table : AcceptedTable t) where
     behind-rule log = rw rule-read refl
 
     -- and behind the log's
-    behind-log : (log : List ℕ) {es : List Event} → Taken log es → Shows t f es (said.logText (countsIn t) (t .fair) (t .label) (t .next) (ruleOf f) (bytes log))
+    behind-log : (log : List ℕ) {es : List Event} → Taken (widthOf (t .props)) log es → Shows t f es (said.logText (countsIn t) (t .fair) (t .label) (t .next) (ruleOf f) (bytes log))
     behind-log log {es} taken = rw (taken .accepts)
         (subst (λ (g : Formula). Shows t g es (said.playedText (countsIn t) (t .fair) (t .label) (t .next) (ruleOf f) log)) (formula-is value)
         (played (countsIn t) (t .fair) (t .label) (t .next) (ruleOf f) passes taken))
@@ -177,11 +179,11 @@ module _ (plant : File) (t : run.Plant) (says : SaysTable plant t) (table : Acce
 
     of-log : (log : File) → OfLog t f log (outputOf plant rule log)
     of-log missing = no-log refl (behind-both missing)
-    of-log (bytes text) = by (logs.reading 2 text)
+    of-log (bytes text) = by (logs.reading (widthOf (t .props)) text)
       where
-        by : logs.Reading 2 text → OfLog t f (bytes text) (outputOf plant rule (bytes text))
+        by : logs.Reading (widthOf (t .props)) text → OfLog t f (bytes text) (outputOf plant rule (bytes text))
         by (logs.accepted es ok small r at) =
-            let log-says : SaysLog (bytes text) es = record { text = text; is = refl; said = small; writable = ok } in
+            let log-says : SaysLog (bytes text) (t .props) es = record { text = text; is = refl; said = small; writable = ok } in
             lamps es log-says (front-door plant rule (bytes text) t f es says table rule-says log-says)
         by (logs.misformed i p r) = log-refused text i refl p (behind-both (bytes text) ∙ rw (ap (λ (x : LogRead). x .outcome) r) refl)
 

@@ -3,7 +3,7 @@
 -- Read beside it: meaning/specs (rules, runs, events, verdicts); the forms of the texts, `tableText` (plant/specs/Written), `SaidBy` (syntax/specs/Grammar) and `logText` (log/specs/Promises);
 -- `smallOf` (text/specs/Written), which makes the digits of a text small; and the lines, `startText`, `lampText` and `refusedText` (report/specs/Text).
 -- `outputOf` is by its contract what `write_output` (transcript/src) puts into the buffer that the program writes out.
-use Prim.Native.Nat.{ℕ, suc, _*_, _≤_, _<_}
+use Prim.Native.Nat.{ℕ, suc, _≤_, _<_}
 use mathlib.Core.Path.{_≡_}
 use mathlib.Core.Logic.{_⊎_}
 use mathlib.Core.List.{List, [], _++_, map}
@@ -12,8 +12,10 @@ use Rattle.meaning.specs.Formula.{Formula, size, parts}
 use Rattle.meaning.specs.Run.{Plant}
 use Rattle.meaning.specs.Event.{since}
 use Rattle.meaning.specs.Limits.{AcceptedTable, Legal}
+use Rattle.text.specs.Number.{widthOf}
 use Rattle.text.specs.Written.{smallOf}
 use Rattle.text.specs.Place.{RefusedAt}
+use Rattle.text.specs.Lines.{lineStart}
 use Rattle.answers.specs.declared.Kind.{Kind}
 use Rattle.answers.specs.declared.Kind.the-variants.{Bits, TableText, LogText, Event as EventKind, File as FileKind}
 use Rattle.answers.specs.declared.Lamp.{Lamp}
@@ -28,6 +30,7 @@ use Rattle.syntax.specs.Print.{Below}
 use Rattle.rule.specs.Paper.{Because}
 use Rattle.log.specs.declared.Event.{Event}
 use Rattle.log.specs.Legal.{seenOf}
+use Rattle.log.specs.Line.{lineBytes}
 use Rattle.log.specs.Log.{nothing, logForm}
 use Rattle.log.specs.Promises.{AllWritable, logSlots, logText}
 use Rattle.advance.specs.Held.{eventOf}
@@ -55,12 +58,12 @@ pub record SaysRule (rule : File) (q : ℕ) (f : Formula) : Type 0 where
   pub small : size f ≤ 32
   pub few : parts f ≤ 6
 
--- log.txt says the events es: its text is, the digits made small, the one written for them
-pub record SaysLog (log : File) (es : List Event) : Type 0 where
+-- log.txt says the events es, in lines for q propositions: its text is, the digits made small, the one written for them
+pub record SaysLog (log : File) (q : ℕ) (es : List Event) : Type 0 where
   pub text : List ℕ
   pub is : log ≡ bytes text
-  pub said : smallOf (logSlots 2 es) text ≡ logText 2 es
-  pub writable : AllWritable 2 es
+  pub said : smallOf (logSlots (widthOf q) es) text ≡ logText (widthOf q) es
+  pub writable : AllWritable (widthOf q) es
 
 -- ---- what is shown of them
 
@@ -76,10 +79,14 @@ RightAfter t f es lamp = Lit t f (since (map eventOf es)) (Shown lamp)
 abbrev pub refused : Kind → ℕ → List ℕ
 refused kind place = refusedText (refusedAt kind place)
 
+-- where line k of a log begins
+abbrev pub lineOf : Plant → ℕ → ℕ
+lineOf t k = lineStart (lineBytes (widthOf (t .props))) k
+
 -- where the lamps end, and with what: all events are legal, and there is nothing more; or event k is the first that is not, and is refused by 10 at the offset of its line
 pub data Ends (t : Plant) (es : List Event) : ℕ → List ℕ → Type 0 where
   at-end : ((n : ℕ) → n < length es → LegalAt t es n) → Ends t es (length es) []
-  at-event : (k : ℕ) → k < length es → ((n : ℕ) → n < k → LegalAt t es n) → (LegalAt t es k → ⊥) → Ends t es k (refused EventKind (k * 20))
+  at-event : (k : ℕ) → k < length es → ((n : ℕ) → n < k → LegalAt t es n) → (LegalAt t es k → ⊥) → Ends t es k (refused EventKind (lineOf t k))
 
 -- the output: the start, a line for each lamp, the end. The start is right for no events, and line n for the events 0 to n
 pub record Shows (t : Plant) (f : Formula) (es : List Event) (output : List ℕ) : Type 0 where
@@ -95,9 +102,9 @@ pub record Shows (t : Plant) (f : Formula) (es : List Event) (output : List ℕ)
 
 -- log.txt, behind a table and a rule: the lamps, or no file (14), or no log (12)
 pub data OfLog (t : Plant) (f : Formula) (log : File) (output : List ℕ) : Type 0 where
-  lamps : (es : List Event) → SaysLog log es → Shows t f es output → OfLog t f log output
+  lamps : (es : List Event) → SaysLog log (t .props) es → Shows t f es output → OfLog t f log output
   no-log : log ≡ missing → output ≡ refused FileKind 0 → OfLog t f log output
-  log-refused : (text : List ℕ) (i : ℕ) → log ≡ bytes text → RefusedAt (logForm 2) text i → output ≡ refused LogText i → OfLog t f log output
+  log-refused : (text : List ℕ) (i : ℕ) → log ≡ bytes text → RefusedAt (logForm (widthOf (t .props))) text i → output ≡ refused LogText i → OfLog t f log output
 
 -- rule.txt, behind a table: a rule, or no file (14), or one of the reasons for 4 to 8, of the text with one final LF dropped
 pub data OfRule (t : Plant) (rule log : File) (output : List ℕ) : Type 0 where
@@ -117,7 +124,7 @@ pub data Output (plant rule log : File) (output : List ℕ) : Type 0 where
 
 -- files that say an accepted table, a rule and events: the lamps are right, line by line
 abbrev pub FrontDoor : Type 0
-FrontDoor = (plant rule log : File) (t : Plant) (f : Formula) (es : List Event) → SaysTable plant t → AcceptedTable t → SaysRule rule (t .props) f → SaysLog log es → Shows t f es (outputOf plant rule log)
+FrontDoor = (plant rule log : File) (t : Plant) (f : Formula) (es : List Event) → SaysTable plant t → AcceptedTable t → SaysRule rule (t .props) f → SaysLog log (t .props) es → Shows t f es (outputOf plant rule log)
 
 -- any files at all: the output is one of these
 abbrev pub EveryOutput : Type 0

@@ -1,5 +1,5 @@
 -- The lamps of a log, from the opening on: the calls take each event that is legal and show a right lamp, up to the first that is not.
-use Prim.Native.Nat.{ℕ, zero, suc, _*_, _/_, _≤_, _<_}
+use Prim.Native.Nat.{ℕ, zero, suc, _≤_, _<_}
 use native.Mathlib.Omega.{arith}
 use mathlib.Core.Path.{_≡_, refl, sym, ap, subst, _∙_}
 use mathlib.Core.Bool.{Bool, true, false, false≢true}
@@ -8,6 +8,7 @@ use mathlib.Core.Logic.{⊎-elim}
 use lib.ListN.{length, getD, take, length-append, List·getD-append}
 use lib.Seq.{take-suc, getD-at}
 use Rattle.words.specs.Tests.{below-cases}
+use Rattle.text.specs.Number.{widthOf}
 use Rattle.meaning.specs.Formula.{Formula}
 use Rattle.meaning.specs.Run as run
 use Rattle.meaning.specs.Event.{since}
@@ -27,7 +28,7 @@ use Rattle.syntax.specs.declared.Rule.{Rule}
 use Rattle.log.specs.declared.Event.{Event}
 use Rattle.log.specs.Legal.{seenOf, legalOf, legal-exactly}
 use Rattle.log.specs.Log.{nothing}
-use Rattle.log.specs.Read.{logRead, eventAt}
+use Rattle.log.specs.Read.{logRead, wholeLines, eventAt}
 use Rattle.checks.proofs.Input.{Input}
 use Rattle.live.proofs.Promises.{prepare-accepted}
 use Rattle.advance.specs.declared.Monitor.{Monitor}
@@ -39,16 +40,16 @@ use Rattle.watching.specs.Watching.{AllLegal, after, after-model, shows, checks
 use Rattle.course.specs.Course.{Course, takes, goOn, courseTo}
 use Rattle.course.specs.Right.{held-at}
 use Rattle.report.specs.Text.{startText}
-use Rattle.transcript.specs.Lines.{dark, linesText}
+use Rattle.transcript.specs.Lines.{dark}
 use Rattle.transcript.specs.Said as said
 use Rattle.promises.specs.Demand.{Lit, lamp-right}
-use Rattle.promises.specs.FrontDoor.{LegalAt, RightAfter, Ends, at-end, at-event, Shows, refused}
+use Rattle.promises.specs.FrontDoor.{LegalAt, RightAfter, Ends, at-end, at-event, lineOf, Shows, refused}
 
--- a log is accepted, and says these events
-pub record Taken (log : List ℕ) (es : List Event) : Type 0 where
-  pub accepts : logRead 2 log .outcome ≡ Accepted
-  pub events : (k : ℕ) → eventAt 2 log k ≡ getD es k nothing
-  pub many : length log / 20 ≡ length es
+-- a log of w digits is accepted, and says these events
+pub record Taken (w : ℕ) (log : List ℕ) (es : List Event) : Type 0 where
+  pub accepts : logRead w log .outcome ≡ Accepted
+  pub events : (k : ℕ) → eventAt w log k ≡ getD es k nothing
+  pub many : wholeLines w log ≡ length es
 
 module _ (p : Plant) (fair label next : List ℕ) (rule : Rule) (input : Input p fair label next rule) where
   abbrev T : run.Plant
@@ -190,7 +191,7 @@ module _ (p : Plant) (fair label next : List ℕ) (rule : Rule) (input : Input p
 
   -- what is shown behind all events
   shown : (es : List Event) (output : List ℕ) (c : Course) → Gone es (length es) c
-      → output ≡ startText first ++ (linesText (c .lamps) ++ said.stopText (c .went .outcome) (c .went .done)) → Shows T f es output
+      → output ≡ startText first ++ said.behindText (p .props) c → Shows T f es output
   shown es output c (all-taken lamps many legal right is) e = record {
     start = first;
     lamps = lamps;
@@ -203,18 +204,18 @@ module _ (p : Plant) (fair label next : List ℕ) (rule : Rule) (input : Input p
   shown es output c (stopped k before lamps many legal bad right m is) e = record {
     start = first;
     lamps = lamps;
-    end = refused EventKind (k * 20);
+    end = refused EventKind (lineOf T k);
     is = e ∙ rw is refl;
     start-right = first-lit;
     line-right = right;
-    ends = subst (λ (n : ℕ). Ends T es n (refused EventKind (k * 20))) (sym many) (at-event k before legal bad);
+    ends = subst (λ (n : ℕ). Ends T es n (refused EventKind (lineOf T k))) (sym many) (at-event k before legal bad);
   }
 
   -- what the program writes for an accepted table and rule, and a log that is accepted
-  pub played : {log : List ℕ} {es : List Event} → Taken log es → Shows T f es (said.playedText p fair label next rule log)
+  pub played : {log : List ℕ} {es : List Event} → Taken (widthOf (p .props)) log es → Shows T f es (said.playedText p fair label next rule log)
   unfolding said.playedText after
   played {log} {es} taken =
-      shown es (said.playedText p fair label next rule log) (at es (eventAt 2 log) (taken .events) (length es)) (gone es (eventAt 2 log) (taken .events) (length es) (omega arith))
+      shown es (said.playedText p fair label next rule log) (at es (eventAt (widthOf (p .props)) log) (taken .events) (length es)) (gone es (eventAt (widthOf (p .props)) log) (taken .events) (length es) (omega arith))
       (rw (prepare-accepted p fair label next rule (full p fair label next rule input) .1 input, opens, taken .many) refl)
     where
       opens : opened .answer ≡ Shown first

@@ -7,3 +7,4 @@ mod Lamps
 mod RuleEnd
 pub mod FromTexts
 pub mod OneOutput
+pub mod Longest

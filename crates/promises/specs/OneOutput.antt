@@ -1,5 +1,5 @@
 -- The front door leaves no choice: three files say one table, one rule and one list of events, and two outputs that show what these dictate are the same bytes.
-use Prim.Native.Nat.{ℕ, _*_, _≤_, _<_}
+use Prim.Native.Nat.{ℕ, _≤_, _<_}
 use native.Mathlib.Omega.{arith}
 use mathlib.Core.Path.{_≡_, refl, sym, ap, ap₂, subst, _∙_}
 use mathlib.Core.List.{List, _++_}
@@ -10,6 +10,7 @@ use Rattle.words.specs.Folds.{count-same}
 use Rattle.words.specs.Truth.{says-same}
 use Rattle.text.specs.Slot.{Slot}
 use Rattle.text.specs.Form.{Form}
+use Rattle.text.specs.Number.{widthOf}
 use Rattle.text.specs.Written.{textOf, smallOf}
 use Rattle.text.specs.Place.{Whole, reads-whole}
 use Rattle.text.specs.Promises.{WrittenOut, filled-out}
@@ -62,9 +63,9 @@ rule-one {rule} {q} {f} {g} a b = one-tree (b .text) f g (subst (SaidBy f) (sym 
     text-is : {f : Formula} (says : SaysRule rule q f) → stripped (bytesOf rule) ≡ says .text
     text-is says = ⊎-elim (λ e. ap (λ (x : File). stripped (bytesOf x)) e ∙ end-said (says .said)) (λ e. ap (λ (x : File). stripped (bytesOf x)) e ∙ end-dropped (says .text)) (says .is)
 
-pub log-one : {log : File} {es fs : List Event} → SaysLog log es → SaysLog log fs → es ≡ fs
-log-one {es = es} {fs = fs} says says' =
-    value-one (log-out 2) (log-whole 2) es fs (sym (says .is) ∙ says' .is) (says .writable) (says' .writable) (says .said) (says' .said)
+pub log-one : {log : File} {q : ℕ} {es fs : List Event} → SaysLog log q es → SaysLog log q fs → es ≡ fs
+log-one {q = q} {es = es} {fs = fs} says says' =
+    value-one (log-out (widthOf q)) (log-whole (widthOf q)) es fs (sym (says .is) ∙ says' .is) (says .writable) (says' .writable) (says .said) (says' .said)
 
 -- ---- what is shown
 
@@ -112,7 +113,7 @@ module _ (t : Plant) (f : Formula) where
   end-one (at-end a) (at-end b) = (refl, refl)
   end-one (at-end a) (at-event m low b bad) = absurd (bad (a m low))
   end-one (at-event k low a bad) (at-end b) = absurd (bad (b k low))
-  end-one (at-event k low a bad) (at-event m low' b bad') = (same, ap (λ (n : ℕ). door.refused EventKind (n * 20)) same)
+  end-one (at-event k low a bad) (at-event m low' b bad') = (same, ap (λ (n : ℕ). door.refused EventKind (door.lineOf t n)) same)
     where
       same : k ≡ m
       same =

@@ -15,6 +15,7 @@ use Rattle.rule.specs.Valid.{validOf}
 use Rattle.rule.specs.Printing.{printAnswer, printBuffer}
 use Rattle.log.specs.declared.Event.{Event}
 use Rattle.log.specs.Legal.{legalOf}
+use Rattle.text.specs.Number.{widthOf}
 use Rattle.log.specs.Read.{logRead, eventAt}
 use Rattle.advance.specs.declared.Monitor.{Monitor}
 use Rattle.monitor.specs.Calls.{openOf, lookOf, stepOf}
@@ -36,16 +37,16 @@ Only {A} x = (r r' : A) → r ≡ x → r' ≡ x → r ≡ r'
 only : {A : Type 0} (x : A) → Only x
 only x r r' e e' = e ∙ sym e'
 
--- texts
+-- texts, a log's for so many propositions
 module _ (text : List ℕ) where
   pub read-table : Only (tableRead text)
   read-table = only (tableRead text)
 
-  pub read-log : Only (logRead 2 text)
-  read-log = only (logRead 2 text)
+  pub read-log : (props : ℕ) → Only (logRead (widthOf props) text)
+  read-log props = only (logRead (widthOf props) text)
 
-  pub event-at : (line : ℕ) → Only (eventAt 2 text line)
-  event-at line = only (eventAt 2 text line)
+  pub event-at : (props line : ℕ) → Only (eventAt (widthOf props) text line)
+  event-at props line = only (eventAt (widthOf props) text line)
 
 -- events and rule values
 pub is-legal : (event : Event) (props : ℕ) → Only (legalOf event props)

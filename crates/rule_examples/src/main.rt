@@ -127,12 +127,17 @@ fn lengths() {
 // 1 and 2 for the table beside, before any other.
 fn tables() {
     let long = [b' '; 513];
-    read(plant_w(9, 1), b"props=9, 513 spaces", &long);
+    read(plant_w(17, 1), b"props=17, 513 spaces", &long);
     read(plant_w(0, 1), b"props=0, p8", b"p8");
     read(plant_w(2, 8), b"start={3}, p8", b"p8");
-    read(plant_w(9, 8), b"props=9, start={3}, p8", b"p8");
+    read(plant_w(17, 8), b"props=17, start={3}, p8", b"p8");
     read(plant_w(1, 1), b"a label with p1 where props=1, p8", b"p8");
-    read(plant_w(8, 1), b"props=8, p7", b"p7");
+    read(plant_w(16, 1), b"props=16, p15", b"p15");
+    read(
+        plant_w(16, 1),
+        b"props=16, 15 arrows and !p10",
+        b"!p10->p10->p10->p10->p10->p10->p10->p10->p10->p10->p10->p10->p10->p10->p10->p10",
+    );
 }
 
 // A value of `len` nodes, of which the first is `op` and the one at `at` is `other`.

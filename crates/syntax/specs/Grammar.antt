@@ -6,15 +6,16 @@ use mathlib.Core.Bool.{cond}
 use lib.Dec.{ltb}
 use lib.ListN.{length, take, drop}
 use mathlib.Core.List.{List, [], _∷_, _++_}
+use Rattle.meaning.specs.Limits.{mostProps}
 use Rattle.meaning.specs.Formula.{Formula, never, always, prop, neg, next, finally, globally, until, release, and, or, implies}
 use Rattle.syntax.specs.declared.Op.{Op}
 use Rattle.syntax.specs.declared.Op.the-variants.{False, True, Prop, Not, Next, Finally, Globally, Until, Release, And, Or, Implies}
 use Rattle.syntax.specs.declared.Token.{Token}
 use Rattle.syntax.specs.declared.Token.the-variants.{Leaf, Prefix, Infix, Open, Close}
 
--- how many propositions have a name: `p0` to `p15`
+-- how many propositions have a name: `p0` to `p15`, as many as a table can have
 abbrev pub names : ℕ
-names = 16
+names = mostProps
 
 -- a number below 100 in decimal, with no leading zero
 unfoldable pub spell : ℕ → List ℕ

@@ -56,6 +56,12 @@ start-is n (suc k) = ap (λ (m : ℕ). m + n) (start-is n k) ∙ sym (suc-mul k 
 pub start-grows : (n j k : ℕ) → j ≤ k → lineStart n j ≤ lineStart n k
 start-grows n j k h = rw (start-is n j, start-is n k) (mul-le-mul-right n h)
 
+-- no line is empty
+pub start-above : (n k : ℕ) → 0 < n → k ≤ lineStart n k
+unfolding offset
+start-above n zero some = omega arith
+start-above n (suc k) some = omega (arith, start-above n k some)
+
 -- they have room for the text
 pub begun-holds : (n long : ℕ) → 0 < n → long ≤ lineStart n (begun n long)
 unfolding begun
@@ -70,6 +76,10 @@ begun-least n long k some h = omega (arith, div-lt-iff-lt-mul {x = long + (n - 1
 pub begun-more : (n long k : ℕ) → 0 < n → lineStart n k < long → k < begun n long
 unfolding begun offset
 begun-more n long k some h = le-div-iff-mul-le {x = suc k} some .1 (rw (← start-is n (suc k)) (omega arith))
+
+-- as many whole lines as a text has room for end within it
+pub lines-inside : (n long k : ℕ) → 0 < n → k ≤ long / n → k * n ≤ long
+lines-inside n long k some h = le-div-iff-mul-le {x = k} some .0 h
 
 -- lines that fill a text are all that it has
 pub all-begun : (n long k : ℕ) → 0 < n → long ≡ lineStart n k → (begun n long ≡ k) × (long / n ≡ k)

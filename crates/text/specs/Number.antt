@@ -1,6 +1,7 @@
 -- Numbers in a text: hexadecimal of a width, and decimal counts below 100.
-use Prim.Native.Nat.{ℕ, zero, suc, _+_, _*_, _/_, _%_}
-use mathlib.Core.Bool.{cond, _||_}
+use Prim.Native.Nat.{ℕ, zero, suc, _+_, _*_, _/_, _%_, _≤_}
+use mathlib.Core.Bool.{Bool, true, false, cond, _||_}
+use native.Mathlib.Omega.{arith}
 use mathlib.Core.List.{List, [], _∷_, _++_}
 use lib.Dec.{ltb}
 use lib.ListN.{getD}
@@ -19,6 +20,18 @@ hexSlots (suc w) n = hexSlots w (n / 16) ++ (digit (n % 16) ∷ [])
 unfoldable pub hexGuess : ℕ → List ℕ → ℕ
 hexGuess zero s = 0
 hexGuess (suc w) s = hexGuess w s * 16 + digitOr0 (getD s w 0)
+
+-- how many digits a set of propositions has where there are so many: two, and four where they are more than 8
+unfoldable pub widthOf : ℕ → ℕ
+widthOf props = cond (ltb 8 props) 4 2
+
+pub width-between : (props : ℕ) → (2 ≤ widthOf props) × (widthOf props ≤ 4)
+unfolding widthOf
+width-between props = by-test (ltb 8 props)
+  where
+    by-test : (b : Bool) → (2 ≤ cond b 4 2) × (cond b 4 2 ≤ 4)
+    by-test true = (omega arith, omega arith)
+    by-test false = (omega arith, omega arith)
 
 -- a number below 100 in decimal, with no leading zero: its first digit, the slot behind that, and what still follows. `end` is the byte that ends it
 unfoldable pub leadOf : ℕ → ℕ

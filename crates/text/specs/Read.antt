@@ -106,8 +106,11 @@ digit-met s c e n v h q r =
     (r .0 ∙ ap (stepOf c) (ap₂ eqb q n16 ∙ sym (meets-one s (c .at) n)), r .1)
 
 -- what a number of fewer digits leaves room for
+pub digits-room : (v i w : ℕ) → v < 16 ^ i → i ≤ w → v < 16 ^ w
+digits-room v i w h l = omega (arith, pow-le-pow-right {n = 16} (omega arith) l)
+
 pub hex-room : (s : List ℕ) (c d : Cursor) (i w v : ℕ) → IsHex s c i v d → i ≤ w → v < 16 ^ w
-hex-room s c d i w v h l = omega (arith, h .small, pow-le-pow-right {n = 16} (omega arith) l)
+hex-room s c d i w v h l = digits-room v i w (h .small) l
 
 pub count-one :
     (s : List ℕ) (c d e : Cursor) (end n : ℕ) → n < 10 → d ≡ after s c (digit n ∷ []) → e ≡ after s d (exactly end ∷ []) → e ≡ after s c (countSlots end n)

@@ -4,7 +4,7 @@ ghost use mathlib.Core.List.{[], _∷_};
 ghost use Prim.Native.Nat.{_+_, _≤_, _<_};
 ghost use lib.ListN.{length, getD};
 ghost use Rattle.text.specs.Slot.{exactly, digit, digitValue, word};
-ghost use Rattle.text.specs.Number.{countSlots, countOf};
+ghost use Rattle.text.specs.Number.{widthOf, countSlots, countOf};
 ghost use Rattle.text.specs.After.{meets, stepOf, after};
 ghost use Rattle.text.specs.Read.{IsDigit, IsHex, IsCount};
 
@@ -159,6 +159,16 @@ pub fn hex(text: &[u8], c: Cursor, width: usize) -> Number
         i += 1;
     }
     Number { value, next: d }
+}
+
+// How many digits a set of propositions has where there are so many.
+pub fn width_of(props: usize) -> usize
+    ensures { λ r. ⌜ (r ≡ widthOf props) × (r ≤ 4) ⌝ }
+{
+    if 8 < props {
+        return 4;
+    }
+    2
 }
 
 // One known digit.

@@ -12,7 +12,7 @@ ghost use lib.ListN.{length};
 // The outcome of a text, a log's or a table's.
 fn outcome_of(text: &[u8], is_log: bool) -> Outcome {
     if is_log {
-        let read = log::read_log(text);
+        let read = log::read_log(text, 8);
         return read.outcome;
     }
     let read = plant::read_table(text);
@@ -79,7 +79,8 @@ fn case(kind: u8, text: &[u8]) {
     match kind {
         b't' => one(text),
         b'T' => show::table(text),
-        b'l' => show::log(text),
+        b'l' => show::log(text, 8),
+        b'L' => show::log(text, 9),
         b'p' => prefixes(text, false),
         b'c' => changes(text, false),
         b'q' => prefixes(text, true),

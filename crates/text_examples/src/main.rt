@@ -11,16 +11,16 @@ use show::legal;
 fn tables() {
     heading(b"tables handed in");
     handed(1, 1, 1, 4);
-    handed(8, 1, 1, 4);
+    handed(16, 1, 1, 4);
     handed(0, 1, 1, 4);
-    handed(9, 1, 1, 4);
+    handed(17, 1, 1, 4);
     handed(1, 0, 1, 4);
     handed(1, 2, 1, 4);
     handed(1, 65, 1, 4);
     handed(1, 1, 1, 3);
     handed(1, 1, 1, 5);
     handed(1, 1, 2, 4);
-    handed(9, 1, 2, 4);
+    handed(17, 1, 2, 4);
 }
 
 // Events: see, val, props.

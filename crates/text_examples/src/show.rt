@@ -92,8 +92,8 @@ pub fn table(text: &[u8]) {
     sets(b"next", &table.next);
 }
 
-fn event(text: &[u8], line: usize) {
-    let event = log::event_at(text, line);
+fn event(text: &[u8], line: usize, props: usize) {
+    let event = log::event_at(text, line, props);
     number(b" ", event.see as usize);
     number(b"/", event.val as usize);
     if event.new {
@@ -101,16 +101,16 @@ fn event(text: &[u8], line: usize) {
     }
 }
 
-// The outcome of a log's text, its number of lines, and the events of its first four lines.
-pub fn log(text: &[u8]) {
-    let read = log::read_log(text);
+// The outcome of a log's text for so many propositions, its number of lines, and the events of its first four lines.
+pub fn log(text: &[u8], props: usize) {
+    let read = log::read_log(text, props);
     let outcome = read.outcome;
     tell(outcome);
     number(b" lines=", read.lines);
-    event(text, 0);
-    event(text, 1);
-    event(text, 2);
-    event(text, 3);
+    event(text, 0, props);
+    event(text, 1, props);
+    event(text, 2, props);
+    event(text, 3, props);
     end();
 }
 

@@ -3,7 +3,6 @@
 // No time is measured here: bench/run takes that of whole runs. A file that is refused gives the empty table, rule or log, and so another digest.
 use files::File;
 use libc::STDOUT_FILENO;
-use log::Event;
 use monitor::Monitor;
 use pairs::Pairs;
 use plant::Plant;
@@ -118,8 +117,8 @@ fn run_log(
 ) -> Monitor {
     let opened = monitor::open(plant, fair, label, next, rule, live);
     let mut now = opened.monitor;
-    for n in 0..text.len() / Event::BYTES {
-        let event = log::event_at(text, n);
+    for n in 0..text.len() / log::line_bytes(plant.props) {
+        let event = log::event_at(text, n, plant.props);
         let watched = monitor::step(plant, fair, label, next, rule, live, now, event);
         now = watched.monitor;
     }

@@ -16,6 +16,10 @@ use Rattle.report.specs.Line.{Put}
 use Rattle.report.proofs.Puts.{puts}
 use Rattle.pairs.specs.declared.Pairs.{Pairs}
 use Rattle.plant.specs.declared.Plant.{Plant}
+use Rattle.text.specs.Number.{widthOf}
+use Rattle.text.specs.Lines.{lineStart, start-is, lines-inside}
+use Rattle.log.specs.Line.{lineBytes}
+use Rattle.log.specs.Read.{wholeLines}
 use Rattle.syntax.specs.declared.Rule.{Rule}
 use Rattle.live.specs.Prepare.{preparedOf}
 use Rattle.live.proofs.Promises.{prepare-accepted}
@@ -40,17 +44,21 @@ module _ {b now : List ℕ} {end : ℕ} where
   accepted-said {R} out F e f h = subst (λ (y : R). Put b 0 (orRefused (out y) (F y)) now end) e (rw f h)
 
   -- a log whose form was accepted is there
-  pub log-there : (ok : Bool) (text : List ℕ) {o : Outcome} (F : List ℕ → List ℕ) → o ≡ logOutcome (fileOf ok text) → o ≡ Accepted → Put b 0 (F text) now end → Put b 0 (F (bytesOf (fileOf ok text))) now end
-  log-there true text F e f h = h
-  log-there false text F e f h = absurd (let z : _≡_ {A = ℕ} 0 1 = cc in omega arith)
+  pub log-there : (props : ℕ) (ok : Bool) (text : List ℕ) {o : Outcome} (F : List ℕ → List ℕ) → o ≡ logOutcome props (fileOf ok text) → o ≡ Accepted → Put b 0 (F text) now end → Put b 0 (F (bytesOf (fileOf ok text))) now end
+  log-there props true text F e f h = h
+  log-there props false text F e f h = absurd (let z : _≡_ {A = ℕ} 0 1 = cc in omega arith)
 
 -- behind the lines: nothing, or the refusal of the event behind them
-pub went-all : {b lines now : List ℕ} {at end : ℕ} {o : Outcome} (n : ℕ) → o ≡ Accepted → Put b at lines now end → Put b at (lines ++ stopText o n) now end
-went-all n e p = rw (e, append-nil) p
+pub went-all : {b lines now : List ℕ} {at end : ℕ} {o : Outcome} (offset : ℕ) → o ≡ Accepted → Put b at lines now end → Put b at (lines ++ stopText o offset) now end
+went-all offset e p = rw (e, append-nil) p
 
-pub went-stopped : {b lines mid now : List ℕ} {at end last : ℕ} {o : Outcome} {r s : Refusal} (n : ℕ) → o ≡ Refused r → s ≡ placedAt r (n * 20) → Put b at lines mid end → Put mid end (refusedText s) now last
-    → Put b at (lines ++ stopText o n) now last
-went-stopped n e f p q = rw (e, ← f) (puts p q)
+pub went-stopped : {b lines mid now : List ℕ} {at end last : ℕ} {o : Outcome} {r s : Refusal} (offset : ℕ) → o ≡ Refused r → s ≡ placedAt r offset → Put b at lines mid end → Put mid end (refusedText s) now last
+    → Put b at (lines ++ stopText o offset) now last
+went-stopped offset e f p q = rw (e, ← f) (puts p q)
+
+-- a line's place is within the text
+pub line-inside : (props : ℕ) (text : List ℕ) {bytes k : ℕ} → bytes ≡ lineBytes (widthOf props) → k ≤ wholeLines (widthOf props) text → k * bytes ≤ length text
+line-inside props text {bytes} {k} wide h = lines-inside bytes (length text) k (omega (arith, wide)) (rw wide h)
 
 -- the lines of a course, from the bytes that the loop stored
 module _ {c : Course} {n : ℕ} (h : Counted n c) {verdicts₀ lefts₀ verdicts lefts : List ℕ} {r : Went} (w : Followed c verdicts₀ lefts₀ verdicts lefts r) where
@@ -76,18 +84,21 @@ module _ {c : Course} {n : ℕ} (h : Counted n c) {verdicts₀ lefts₀ verdicts
     lines : byteLines (r .done) verdicts lefts ≡ linesText (c .lamps)
     lines = rw (done-is, verdicts-over, lefts-over) (lines-are (c .lamps) (h .lefts) _ _)
 
-    pub course-said : {b now : List ℕ} {at end : ℕ} → Put b at (byteLines (r .done) verdicts lefts ++ stopText (r .outcome) (r .done)) now end → Put b at (behindText c) now end
-    course-said {b} {now} {at} {end} p =
-        subst (λ (s : List ℕ). Put b at s now end) (ap₂ (λ (s : List ℕ) (x : Went). s ++ stopText (x .outcome) (x .done)) lines (w .went)) p
+    pub course-said : (props : ℕ) {bytes : ℕ} → bytes ≡ lineBytes (widthOf props) → {b now : List ℕ} {at end : ℕ}
+        → Put b at (byteLines (r .done) verdicts lefts ++ stopText (r .outcome) (r .done * bytes)) now end → Put b at (behindText props c) now end
+    course-said props wide {b} {now} {at} {end} p =
+        subst (λ (s : List ℕ). Put b at s now end)
+        (ap₂ (λ (s : List ℕ) (x : Went). s ++ stopText (x .outcome) (lineStart (lineBytes (widthOf props)) (x .done))) lines (w .went))
+        (rw (wide, ← start-is (lineBytes (widthOf props)) (r .done)) at p)
 
 -- what an opened monitor shows, and what follows
-module _ {b now : List ℕ} {end : ℕ} (F : Monitor → Course) {w x : Watched} (e : w ≡ x) where
-  pub not-opened : {r : Refusal} → w .answer ≡ Answers.Refused r → Put b 0 (refusedText r) now end → Put b 0 (openedText (x .answer) (F (x .monitor))) now end
-  not-opened f h = subst (λ (y : Watched). Put b 0 (openedText (y .answer) (F (y .monitor))) now end) e (rw f h)
+module _ {b now : List ℕ} {end : ℕ} (props : ℕ) (F : Monitor → Course) {w x : Watched} (e : w ≡ x) where
+  pub not-opened : {r : Refusal} → w .answer ≡ Answers.Refused r → Put b 0 (refusedText r) now end → Put b 0 (openedText props (x .answer) (F (x .monitor))) now end
+  not-opened f h = subst (λ (y : Watched). Put b 0 (openedText props (y .answer) (F (y .monitor))) now end) e (rw f h)
 
-  pub opened-said : {l : Lamp} {mid : List ℕ} {at : ℕ} → w .answer ≡ Answers.Shown l → Put b 0 (startText l) mid at → Put mid at (behindText (F (w .monitor))) now end
-      → Put b 0 (openedText (x .answer) (F (x .monitor))) now end
-  opened-said f p q = subst (λ (y : Watched). Put b 0 (openedText (y .answer) (F (y .monitor))) now end) e (rw f (puts p q))
+  pub opened-said : {l : Lamp} {mid : List ℕ} {at : ℕ} → w .answer ≡ Answers.Shown l → Put b 0 (startText l) mid at → Put mid at (behindText props (F (w .monitor))) now end
+      → Put b 0 (openedText props (x .answer) (F (x .monitor))) now end
+  opened-said f p q = subst (λ (y : Watched). Put b 0 (openedText props (y .answer) (F (y .monitor))) now end) e (rw f (puts p q))
 
 -- and that a log may be followed from it
 pub fits-opened : (p : Plant) (fair label next : List ℕ) (rule : Rule) → length (rule .nodes) ≡ 32 → preparedOf p fair label next rule .outcome ≡ Accepted

@@ -1,5 +1,5 @@
 -- THE PROGRAM'S WHOLE OUTPUT, as a text of the three texts that it is given, in 01's order of checks. It stops at the first refusal.
-use Prim.Native.Nat.{ℕ, _*_}
+use Prim.Native.Nat.{ℕ}
 use mathlib.Core.Bool.{Bool, true, false}
 use mathlib.Core.List.{List, [], _++_}
 use lib.ListN.{take}
@@ -16,6 +16,9 @@ use Rattle.plant.specs.Read.{tableRead, refusedRead}
 use Rattle.syntax.specs.declared.Rule.{Rule}
 use Rattle.rule.specs.declared.RuleRead.{RuleRead}
 use Rattle.rule.specs.Reading.{refusedAs, ruleRead}
+use Rattle.text.specs.Number.{widthOf}
+use Rattle.text.specs.Lines.{lineStart}
+use Rattle.log.specs.Line.{lineBytes}
 use Rattle.log.specs.Read.{logRead}
 use Rattle.live.specs.Prepare.{preparedOf}
 use Rattle.monitor.specs.declared.Watched.{Watched}
@@ -49,28 +52,29 @@ abbrev pub ruleGiven : Plant → List ℕ → List ℕ → List ℕ → File →
 ruleGiven p fair label next (bytes text) = ruleRead p fair label next (take (endOf text) text)
 ruleGiven p fair label next missing = refusedAs FileKind 0
 
-abbrev pub logOutcome : File → Outcome
-logOutcome (bytes text) = logRead 2 text .outcome
-logOutcome missing = Refused (refusedAt FileKind 0)
+-- a log's lines are as wide as the table's propositions ask for
+abbrev pub logOutcome : ℕ → File → Outcome
+logOutcome props (bytes text) = logRead (widthOf props) text .outcome
+logOutcome props missing = Refused (refusedAt FileKind 0)
 
 -- a refusal is the last line
 abbrev pub orRefused : Outcome → List ℕ → List ℕ
 orRefused Accepted text = text
 orRefused (Refused r) text = refusedText r
 
--- behind the last line: nothing, or the refusal of an event at the offset of its line
+-- behind the last line: nothing, or the refusal of an event at its line's offset
 abbrev pub stopText : Outcome → ℕ → List ℕ
-stopText Accepted n = []
-stopText (Refused r) n = refusedText (placedAt r (n * 20))
+stopText Accepted offset = []
+stopText (Refused r) offset = refusedText (placedAt r offset)
 
--- the lamps of the log's lines
-abbrev pub behindText : Course → List ℕ
-behindText c = linesText (c .lamps) ++ stopText (c .went .outcome) (c .went .done)
+-- the lamps of the log's lines, and then the event behind those taken
+abbrev pub behindText : ℕ → Course → List ℕ
+behindText props c = linesText (c .lamps) ++ stopText (c .went .outcome) (lineStart (lineBytes (widthOf props)) (c .went .done))
 
 -- and before them the lamp at the start
-abbrev pub openedText : Answer → Course → List ℕ
-openedText (Answers.Shown l) c = startText l ++ behindText c
-openedText (Answers.Refused r) c = refusedText r
+abbrev pub openedText : ℕ → Answer → Course → List ℕ
+openedText props (Answers.Shown l) c = startText l ++ behindText props c
+openedText props (Answers.Refused r) c = refusedText r
 
 module _ (p : Plant) (fair label next : List ℕ) where
   -- from the start to the log's end: the calls, one after the other
@@ -78,11 +82,11 @@ module _ (p : Plant) (fair label next : List ℕ) where
   playedText rule log =
       let prepared = preparedOf p fair label next rule in
       let opened = openOf p fair label next rule (prepared .live) in
-      orRefused (prepared .outcome) (openedText (opened .answer) (courseOf p fair label next rule (prepared .live) (opened .monitor) log))
+      orRefused (prepared .outcome) (openedText (p .props) (opened .answer) (courseOf p fair label next rule (prepared .live) (opened .monitor) log))
 
   -- the form of a log is checked before any lamp is shown
   abbrev pub logText : Rule → File → List ℕ
-  logText rule log = orRefused (logOutcome log) (playedText rule (bytesOf log))
+  logText rule log = orRefused (logOutcome (p .props) log) (playedText rule (bytesOf log))
 
   unfoldable pub ruleText : File → File → List ℕ
   ruleText rule log = let read = ruleGiven p fair label next rule in orRefused (read .outcome) (logText (read .rule) log)

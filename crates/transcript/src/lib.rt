@@ -108,7 +108,7 @@ fn with_rule(
     requires { ⌜ (length (now log) ≤ 65520) × (229460 ≤ length (now out)) ⌝ }
     ensures { λ r. ⌜ Put (now (out .entry)) 0 (logText plant (now (fair .entry)) (now (label .entry)) (now (next .entry)) rule (fileOf ok (now (log .entry)))) (now (out .exit)) r ⌝ }
 {
-    let outcome = texts::check_log(ok, log);
+    let outcome = texts::check_log(ok, log, plant.props);
     match outcome {
         Outcome::Refused(refusal) => put_refused(out, 0, refusal),
         Outcome::Accepted => play::play(plant, fair, label, next, rule, log, out),

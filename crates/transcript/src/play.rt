@@ -7,7 +7,6 @@ use answers::Answer;
 use answers::Kind;
 use answers::Outcome;
 use answers::Refusal;
-use log::Event;
 use pairs::Pairs;
 use plant::Plant;
 use syntax::Rule;
@@ -58,7 +57,7 @@ fn from_start(
     out: &mut [u8],
 ) -> usize
     requires { ⌜ (preparedOf plant (now fair) (now label) (now next) rule .outcome ≡ Accepted) × (live ≡ preparedOf plant (now fair) (now label) (now next) rule .live) × (length (now log) ≤ 65520) × (229460 ≤ length (now out)) ⌝ }
-    ensures { λ r. ⌜ Put (now (out .entry)) 0 (openedText (openOf plant (now (fair .entry)) (now (label .entry)) (now (next .entry)) rule live .answer)
+    ensures { λ r. ⌜ Put (now (out .entry)) 0 (openedText (plant .props) (openOf plant (now (fair .entry)) (now (label .entry)) (now (next .entry)) rule live .answer)
         (courseOf plant (now (fair .entry)) (now (label .entry)) (now (next .entry)) rule live (openOf plant (now (fair .entry)) (now (label .entry)) (now (next .entry)) rule live .monitor) (now (log .entry)))) (now (out .exit)) r ⌝ }
 {
     let opened = monitor::open(plant, fair, label, next, rule, live);
@@ -87,7 +86,7 @@ fn behind_start(
     out: &mut [u8],
 ) -> usize
     requires { ⌜ Fitting plant (now fair) (now label) (now next) rule live monitor × (at ≤ 70) × (length (now log) ≤ 65520) × (229460 ≤ length (now out)) ⌝ }
-    ensures { λ r. ⌜ Put (now (out .entry)) at (behindText (courseOf plant (now (fair .entry)) (now (label .entry)) (now (next .entry)) rule live monitor (now (log .entry)))) (now (out .exit)) r ⌝ }
+    ensures { λ r. ⌜ Put (now (out .entry)) at (behindText (plant .props) (courseOf plant (now (fair .entry)) (now (label .entry)) (now (next .entry)) rule live monitor (now (log .entry)))) (now (out .exit)) r ⌝ }
 {
     let mut verdicts = [0u8; 3276];
     let mut lefts = [0u8; 3276];
@@ -104,10 +103,12 @@ fn behind_start(
         &mut lefts,
     );
     let outcome = went.outcome;
-    put_went(out, at, outcome, went.done, &verdicts, &lefts)
+    let done = went.done;
+    let offset = done * log::line_bytes(plant.props);
+    put_went(out, at, outcome, done, &verdicts, &lefts, offset)
 }
 
-// The lines of the events taken, and the refusal of the one behind them.
+// The lines of the events taken, and the refusal of the one behind them, whose line is at `offset`.
 fn put_went(
     out: &mut [u8],
     at: usize,
@@ -115,14 +116,15 @@ fn put_went(
     done: usize,
     verdicts: &[u8],
     lefts: &[u8],
+    offset: usize,
 ) -> usize
     requires { ⌜ (at ≤ 70) × (done ≤ 3276) × (done ≤ length (now verdicts)) × (done ≤ length (now lefts)) × (229460 ≤ length (now out)) ⌝ }
-    ensures { λ r. ⌜ Put (now (out .entry)) at (byteLines done (now (verdicts .entry)) (now (lefts .entry)) ++ stopText outcome done) (now (out .exit)) r ⌝ }
+    ensures { λ r. ⌜ Put (now (out .entry)) at (byteLines done (now (verdicts .entry)) (now (lefts .entry)) ++ stopText outcome offset) (now (out .exit)) r ⌝ }
 {
     let end = put_lamps(out, at, done, verdicts, lefts);
     match outcome {
         Outcome::Accepted => end,
-        Outcome::Refused(refusal) => put_refused(out, end, placed(refusal, done * Event::BYTES)),
+        Outcome::Refused(refusal) => put_refused(out, end, placed(refusal, offset)),
     }
 }
 

@@ -57,11 +57,11 @@ pub fn read_rule(
     RuleRead::refused(Kind::File, 0)
 }
 
-pub fn check_log(ok: bool, text: &[u8]) -> Outcome
-    ensures { λ r. ⌜ r ≡ logOutcome (fileOf ok (now (text .entry))) ⌝ }
+pub fn check_log(ok: bool, text: &[u8], props: usize) -> Outcome
+    ensures { λ r. ⌜ r ≡ logOutcome props (fileOf ok (now (text .entry))) ⌝ }
 {
     if ok {
-        let read = log::read_log(text);
+        let read = log::read_log(text, props);
         return read.outcome;
     }
     Outcome::Refused(Refusal::at(Kind::File, 0))

@@ -3,7 +3,7 @@
 use crate::dice::Dice;
 use crate::log::Event;
 use crate::pairs::{Graph, Monitor, Verdict};
-use crate::plant::Plant;
+use crate::plant::{digits, Plant};
 use crate::rule::Rule;
 use crate::watch::{File, Files};
 
@@ -36,7 +36,7 @@ pub fn plant(dice: &mut Dice, states: usize) -> Plant {
 }
 
 fn any_plant(dice: &mut Dice, states: usize) -> Plant {
-    let props = *dice.pick(&[1, 2, 2, 3, 3, 4, 5, 8]);
+    let props = *dice.pick(&[1, 2, 2, 3, 3, 4, 5, 8, 9, 13, 16]);
     let style = dice.below(4);
     let share = *dice.pick(&[15, 30, 50, 90]);
     let dead_ends = dice.chance(15);
@@ -57,7 +57,7 @@ fn any_plant(dice: &mut Dice, states: usize) -> Plant {
     let just = *dice.pick(&[0, 0, 1, 1, 2, 3, 4]);
     let thin = *dice.pick(&[20, 40, 80]);
     let fair = (0..just).map(|_| if dice.chance(40) { 1 << dice.below(states) } else { set(dice, states, thin) }).collect();
-    let label = (0..states).map(|_| dice.below(1 << props) as u8).collect();
+    let label = (0..states).map(|_| dice.below(1 << props) as u16).collect();
     Plant { props, states, start, fair, label, next }
 }
 
@@ -147,7 +147,7 @@ pub fn rule(dice: &mut Dice, props: usize, parts: usize) -> String {
 }
 
 fn event_at(dice: &mut Dice, plant: &Plant, s: usize, sight: usize, new: bool) -> Event {
-    let see = (0..plant.props).fold(0u8, |m, p| m | (dice.chance(sight) as u8) << p);
+    let see = (0..plant.props).fold(0u16, |m, p| m | (dice.chance(sight) as u16) << p);
     Event { see, val: plant.label[s] & see, new }
 }
 
@@ -168,7 +168,7 @@ pub fn log(dice: &mut Dice, plant: &Plant, length: usize) -> Vec<Event> {
         }
         let mut event = event_at(dice, plant, s, sight, new);
         if dice.chance(noise) {
-            event.val ^= event.see & dice.word() as u8;
+            event.val ^= event.see & dice.word() as u16;
         }
         events.push(event);
         let ways: Vec<usize> = (0..plant.states).filter(|t| plant.moves(s, *t) && graph.live[*t]).collect();
@@ -177,8 +177,8 @@ pub fn log(dice: &mut Dice, plant: &Plant, length: usize) -> Vec<Event> {
     events
 }
 
-fn log_text(events: &[Event]) -> Vec<u8> {
-    events.iter().map(|e| e.text()).collect::<String>().into_bytes()
+fn log_text(props: usize, events: &[Event]) -> Vec<u8> {
+    events.iter().map(|e| e.text(props)).collect::<String>().into_bytes()
 }
 
 /// Damages a text in one of the ways in which texts are damaged.
@@ -218,7 +218,7 @@ fn good(dice: &mut Dice, states: usize, parts: usize, length: usize) -> (Plant, 
 }
 
 fn files(plant: &Plant, rule: &str, log: &[Event]) -> Files {
-    Files { plant: File::Bytes(plant.text()), rule: File::Bytes(rule.as_bytes().to_vec()), log: File::Bytes(log_text(log)) }
+    Files { plant: File::Bytes(plant.text()), rule: File::Bytes(rule.as_bytes().to_vec()), log: File::Bytes(log_text(plant.props, log)) }
 }
 
 fn bytes(file: &mut File) -> &mut Vec<u8> {
@@ -259,7 +259,7 @@ fn small(dice: &mut Dice) -> Files {
 fn chains(dice: &mut Dice) -> Files {
     let props = dice.from(1, 3);
     let states = 1usize << props;
-    let plant = Plant { props, states, start: mask(states), fair: vec![], label: (0..states as u8).collect(), next: vec![mask(states); states] };
+    let plant = Plant { props, states, start: mask(states), fair: vec![], label: (0..states as u16).collect(), next: vec![mask(states); states] };
     let mut purse = Purse { nodes: 11, parts: 4, spaces: *dice.pick(&[0, 20]), props };
     let mut text = String::new();
     purse.operand(dice, &mut text, 0);
@@ -288,7 +288,7 @@ fn far(dice: &mut Dice) -> Files {
     let states = dice.from(40, 64);
     let short_cuts = *dice.pick(&[0, 3, 10]);
     let next = (0..states).map(|s| 1u64 << ((s + 1) % states) | if dice.chance(short_cuts) { 1 << dice.below(states) } else { 0 }).collect();
-    let label = (0..states).map(|_| (0..3).fold(0, |l, p| l | (dice.chance(6) as u8) << p)).collect();
+    let label = (0..states).map(|_| (0..3).fold(0, |l, p| l | (dice.chance(6) as u16) << p)).collect();
     // One before the other, so that each is nearly a round further on.
     let last = dice.from(4, states - 1);
     let backwards = dice.chance(40);
@@ -357,7 +357,7 @@ fn damaged_plant(dice: &mut Dice) -> Files {
             0 => plant.start |= bit,
             1 => plant.next[s] |= bit,
             2 => plant.fair = vec![1, bit | 1],
-            _ => plant.label[s] |= (1u16 << dice.from(plant.props, 8)) as u8,
+            _ => plant.label[s] |= (1u32 << dice.from(plant.props, 4 * digits(plant.props))) as u16,
         }
     }
     let mut files = files(&plant, &rule, &log);
@@ -365,7 +365,7 @@ fn damaged_plant(dice: &mut Dice) -> Files {
     match dice.below(8) {
         _ if beyond && dice.chance(60) => {}
         0 => {
-            let (key, other) = *dice.pick(&[("props=", "props=9"), ("props=", "props=0"), ("props=", "props=00"), ("states=", "states=0"), ("states=", "states=65"), ("states=", "states=7"), ("just=", "just=5"), ("just=", "just=04")]);
+            let (key, other) = *dice.pick(&[("props=", "props=17"), ("props=", "props=0"), ("props=", "props=00"), ("states=", "states=0"), ("states=", "states=65"), ("states=", "states=7"), ("just=", "just=5"), ("just=", "just=04")]);
             let line = String::from_utf8(text.clone()).unwrap();
             let at = line.find(key).unwrap();
             let end = at + line[at..].find('\n').unwrap();
@@ -439,10 +439,11 @@ fn damaged_log(dice: &mut Dice) -> Files {
     // Events that are of the form, and yet refused.
     if dice.chance(50) && !log.is_empty() {
         let k = dice.below(log.len());
+        let room = ((1u32 << (4 * digits(plant.props))) - 1) as u16;
         match dice.below(3) {
-            0 => log[k].see |= (1u16 << dice.from(plant.props, 8)) as u8,
-            1 => log[k].val |= !log[k].see & dice.word() as u8,
-            _ => log[k] = Event { see: dice.word() as u8, val: dice.word() as u8, new: false },
+            0 => log[k].see |= (1u32 << dice.from(plant.props, 4 * digits(plant.props))) as u16,
+            1 => log[k].val |= !log[k].see & dice.word() as u16 & room,
+            _ => log[k] = Event { see: dice.word() as u16 & room, val: dice.word() as u16 & room, new: false },
         }
     }
     let mut files = files(&plant, &rule, &log);
@@ -460,7 +461,8 @@ fn sizes(dice: &mut Dice) -> Files {
     let (plant, rule, log) = good(dice, 2, 2, 3);
     let mut files = files(&plant, &rule, &log);
     let pad = |n: usize| { let mut t = b"p0".to_vec(); t.resize(n, b' '); t };
-    let line = log_text(&[Event { see: 0, val: 0, new: dice.chance(50) }]);
+    let line = log_text(plant.props, &[Event { see: 0, val: 0, new: dice.chance(50) }]);
+    let most = 65520 / line.len();
     match dice.below(16) {
         0 => *bytes(&mut files.rule) = pad(512),
         1 => *bytes(&mut files.rule) = [pad(512), vec![b'\n']].concat(),
@@ -470,34 +472,34 @@ fn sizes(dice: &mut Dice) -> Files {
         5 => *bytes(&mut files.rule) = vec![b'('; *dice.pick(&[511, 512, 512, 513, 514])],
         6 => *bytes(&mut files.rule) = vec![b'x'; *dice.pick(&[512, 513, 514])],
         7 => *bytes(&mut files.rule) = [vec![b'('; 255], b"p0".to_vec(), vec![b')'; dice.from(253, 256)]].concat(),
-        8 => *bytes(&mut files.log) = line.repeat(3276),
-        9 => *bytes(&mut files.log) = [line.repeat(3276), vec![b's']].concat(),
+        8 => *bytes(&mut files.log) = line.repeat(most),
+        9 => *bytes(&mut files.log) = [line.repeat(most), vec![b's']].concat(),
         10 => {
             let text = bytes(&mut files.log);
-            *text = line.repeat(3276);
+            *text = line.repeat(most);
             let cut = dice.below(25);
             if dice.chance(50) { text.truncate(65520 - cut) } else { text[65519 - cut] = b'x' }
         }
         11 => {
             // The last event of the longest log is refused.
             let text = bytes(&mut files.log);
-            *text = line.repeat(3275);
-            text.extend(b"see=00 val=01 new=0\n");
+            *text = line.repeat(most - 1);
+            text.extend(log_text(plant.props, &[Event { see: 0, val: 1, new: false }]));
         }
         12 | 13 => {
             let mut largest = self::plant(dice, 64);
-            largest.props = 8;
+            largest.props = 16;
             largest.fair = (0..4).map(|_| dice.word()).collect();
             let text = bytes(&mut files.plant);
             *text = largest.text();
             match dice.below(5) {
                 0 => text.push(b'\n'),
-                1 => text[2347] = b'x',
-                2 => text.truncate(2347),
+                1 => text[2476] = b'x',
+                2 => text.truncate(2476),
                 _ => {}
             }
         }
-        14 => *bytes(&mut files.plant) = vec![b'p'; dice.from(2347, 2350)],
+        14 => *bytes(&mut files.plant) = vec![b'p'; dice.from(2476, 2479)],
         _ => {
             let n = *dice.pick(&[0, 1, 5000, 70000]);
             let file = match dice.below(3) { 0 => &mut files.plant, 1 => &mut files.rule, _ => &mut files.log };
@@ -562,7 +564,7 @@ fn several_damaged(dice: &mut Dice, turn: usize) -> Files {
     let numbers = ways[turn % ways.len()];
     let mut files = small(dice);
     // Beside a table with all propositions no rule is refused by 6.
-    while files.read_plant().map_or(true, |plant| plant.props == 8) {
+    while files.read_plant().map_or(true, |plant| plant.props == 16) {
         files = small(dice);
     }
     for text in 0..3 {

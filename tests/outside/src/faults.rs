@@ -85,6 +85,8 @@ ALL {
     CapitalsOneMore: "A is 11, B is 12 and so on",
     DigitG: "g and G are digits of value 16",
     DigitAt: "the byte before A is the digit 9",
+    AlwaysTwoDigits: "sets of more than 8 propositions have two digits",
+    AlwaysFourDigits: "sets of few propositions have four digits",
     NamesOfOneDigit: "no name has two digits",
     TextAfterTable: "bytes after the last line of a table are taken",
     LastLineOpen: "the last line of a table needs no LF",

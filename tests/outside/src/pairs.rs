@@ -48,7 +48,7 @@ fn flatten(rule: &Rule, parts: &mut Vec<Part>) -> Flat {
     }
 }
 
-fn truth(rule: &Flat, label: u8, valuation: u64) -> bool {
+fn truth(rule: &Flat, label: u16, valuation: u64) -> bool {
     match rule {
         Flat::Is(b) => *b,
         Flat::Prop(p) => label >> p & 1 == 1,

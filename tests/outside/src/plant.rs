@@ -10,12 +10,17 @@ pub struct Plant {
     pub states: usize,
     pub start: u64,
     pub fair: Vec<u64>,
-    pub label: Vec<u8>,
+    pub label: Vec<u16>,
     pub next: Vec<u64>,
 }
 
 /// Stands in a form for any hexadecimal digit; no form has this byte itself.
 const DIGIT: u8 = b'?';
+
+/// How many digits a set of propositions has: in labels, and in a log's events.
+pub fn digits(props: usize) -> usize {
+    if props > 8 && !faults::is(Fault::AlwaysTwoDigits) || faults::is(Fault::AlwaysFourDigits) { 4 } else { 2 }
+}
 
 /// The form of all tables with these counts.
 fn form(props: usize, states: usize, just: usize) -> String {
@@ -25,7 +30,7 @@ fn form(props: usize, states: usize, just: usize) -> String {
         text += &format!("j{}={}\n", j, set);
     }
     for s in 0..states {
-        text += &format!("label{}=??\nnext{}={}\n", s, s, set);
+        text += &format!("label{}={}\nnext{}={}\n", s, "?".repeat(digits(props)), s, set);
     }
     text
 }
@@ -39,7 +44,7 @@ struct Form {
 
 fn all_forms() -> Vec<Form> {
     let mut forms = Vec::new();
-    for props in 1..=8 {
+    for props in 1..=16 {
         for states in 1..=64 {
             for just in 0..=4 {
                 forms.push(Form { props, states, just, bytes: form(props, states, just).into_bytes() });
@@ -117,7 +122,7 @@ fn fill(form: &Form, text: &[u8]) -> Plant {
         states: form.states,
         start: sets[0],
         fair: sets[1..].to_vec(),
-        label: table.iter().step_by(2).map(|n| *n as u8).collect(),
+        label: table.iter().step_by(2).map(|n| *n as u16).collect(),
         next: table.iter().skip(1).step_by(2).cloned().collect(),
     }
 }
@@ -170,7 +175,7 @@ impl Plant {
     /// Refusal 2 for a table text's value.
     pub fn within_counts(&self) -> Result<(), Refusal> {
         let states = if self.states == 64 { u64::MAX } else { (1 << self.states) - 1 };
-        let props = if self.props == 8 { 255 } else { (1u8 << self.props) - 1 };
+        let props = ((1u32 << self.props) - 1) as u16;
         let beyond = (self.start & !states != 0 && !faults::is(Fault::StartBitsUnchecked))
             || (self.fair.iter().any(|f| f & !states != 0) && !faults::is(Fault::FairBitsUnchecked))
             || (self.next.iter().any(|n| n & !states != 0) && !faults::is(Fault::NextBitsUnchecked))
@@ -185,7 +190,7 @@ impl Plant {
             text += &format!("j{}={:016x}\n", j, set);
         }
         for s in 0..self.states {
-            text += &format!("label{}={:02x}\nnext{}={:016x}\n", s, self.label[s], s, self.next[s]);
+            text += &format!("label{}={:0w$x}\nnext{}={:016x}\n", s, self.label[s], s, self.next[s], w = digits(self.props));
         }
         text.into_bytes()
     }
@@ -218,8 +223,8 @@ mod tests {
     }
 
     #[test]
-    fn the_longest_text_has_2348_bytes() {
-        assert_eq!(all_forms().iter().map(|f| f.bytes.len()).max(), Some(2348));
+    fn the_longest_text_has_2477_bytes() {
+        assert_eq!(all_forms().iter().map(|f| f.bytes.len()).max(), Some(2477));
     }
 
     #[test]
@@ -230,7 +235,7 @@ mod tests {
     #[test]
     fn places_by_hand() {
         assert_eq!(place(""), (3, 0));
-        assert_eq!(place("props=9\n"), (3, 6));
+        assert_eq!(place("props=17\n"), (3, 7));
         assert_eq!(place("props=0\n"), (3, 6));
         assert_eq!(place("props=1\nstates=65\n"), (3, 16));
         assert_eq!(place("props=1\nstates=640"), (3, 17));
@@ -238,7 +243,6 @@ mod tests {
         assert_eq!(place("props=1\nstates=6"), (3, 16));
         assert_eq!(place("props=A\n"), (3, 6));
         assert_eq!(place("props=1\nstates=1a\n"), (3, 16));
-        assert_eq!(place("props=1\nstates=1\nstart=000000000000000F"), (3, 39));
         assert_eq!(place("props=1\nstates=1\nstart=000000000000000G"), (3, 38));
         assert_eq!(place("props=1\nstates=1\nstart=000000000000000@"), (3, 38));
         assert_eq!(place("props=1\nstates=1\nstart=000000000000000`"), (3, 38));

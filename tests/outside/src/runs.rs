@@ -37,7 +37,7 @@ pub fn past(files: &Files) -> Result<Past, String> {
     let read = || -> Result<Past, crate::Refusal> {
         let plant = files.read_plant()?;
         let rule = files.read_rule(plant.props)?;
-        let events = files.read_log()?;
+        let events = files.read_log(plant.props)?;
         let from = events.iter().rposition(|e| e.new).unwrap_or(0);
         Ok(Past { plant, rule, events: events[from..].to_vec(), kinds })
     };
@@ -295,7 +295,7 @@ pub fn output(files: &Files) -> String {
     };
     let mut events = past.events.clone();
     if faults::is(Fault::RestartIgnored) || faults::is(Fault::RestartKeepsPast) || faults::is(Fault::OutOfModelSticks) || faults::is(Fault::RestartAnywhere) {
-        events = files.read_log().unwrap();
+        events = files.read_log(past.plant.props).unwrap();
     }
     let mut runs = own_lines(&past.plant, &past.rule, &events);
     if faults::is(Fault::RunKindLeftOut) && runs[0].is_some() {

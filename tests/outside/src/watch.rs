@@ -41,7 +41,7 @@ pub struct Files {
 }
 
 fn plant_bytes(file: &File) -> Result<Vec<u8>, Refusal> {
-    let limit = if faults::is(Fault::PlantLimit) { 2347 } else if faults::is(Fault::NoPlantLimit) { 1 << 30 } else { 2348 };
+    let limit = if faults::is(Fault::PlantLimit) { 2476 } else if faults::is(Fault::NoPlantLimit) { 1 << 30 } else { 2477 };
     file.within(limit)
 }
 
@@ -75,8 +75,8 @@ impl Files {
         rule::read(&rule_bytes(&self.rule)?, props)
     }
 
-    pub fn read_log(&self) -> Result<Vec<Event>, Refusal> {
-        log::read(&log_bytes(&self.log)?)
+    pub fn read_log(&self, props: usize) -> Result<Vec<Event>, Refusal> {
+        log::read(&log_bytes(&self.log)?, props)
     }
 
     /// The numbers by which plant, rule and log are refused, each by itself, and 0 for one that is taken. Beside a table that is refused a single
@@ -86,7 +86,7 @@ impl Files {
         let plant = self.read_plant();
         let props = plant.as_ref().map_or(1, |p| p.props);
         let events = |log: Vec<Event>| if log.iter().all(|e| e.is_legal(props)) { 0 } else { 10 };
-        [plant.map_or_else(number, |_| 0), self.read_rule(props).map_or_else(number, |_| 0), self.read_log().map_or_else(number, events)]
+        [plant.map_or_else(number, |_| 0), self.read_rule(props).map_or_else(number, |_| 0), self.read_log(props).map_or_else(number, events)]
     }
 }
 
@@ -110,14 +110,14 @@ fn lines(files: &Files, out: &mut String) -> Result<(), Refusal> {
     }
     let plant = files.read_plant();
     if faults::is(Fault::RuleBeforeTable) && plant.is_err() {
-        files.read_rule(8)?;
+        files.read_rule(16)?;
     }
     if faults::is(Fault::LogBeforeTable) && plant.is_err() {
-        files.read_log()?;
+        files.read_log(8)?;
     }
     let plant = plant?;
     if faults::is(Fault::LogBeforeRule) {
-        files.read_log()?;
+        files.read_log(plant.props)?;
     }
     let rule = files.read_rule(plant.props)?;
     if faults::is(Fault::BitsAfterRule) {
@@ -125,17 +125,19 @@ fn lines(files: &Files, out: &mut String) -> Result<(), Refusal> {
     }
     let text = log_bytes(&files.log)?;
     let early = faults::is(Fault::LogLate) || faults::is(Fault::EventBeforeForm);
-    let events = if early { log::read(&text[..text.len() / 20 * 20]).or_else(|_| log::read(&text)) } else { log::read(&text) }?;
+    let bytes = log::bytes(plant.props);
+    let whole = &text[..text.len() / bytes * bytes];
+    let events = if early { log::read(whole, plant.props).or_else(|_| log::read(&text, plant.props)) } else { log::read(&text, plant.props) }?;
     let graph = Graph::new(&plant, &rule);
     let mut monitor = Monitor::open(&graph);
     *out += &format!("start {}", lamp(&monitor, &graph));
     if faults::is(Fault::LogLate) {
-        log::read(&text)?;
+        log::read(&text, plant.props)?;
     }
     let mut shown = 0;
     for (n, event) in events.iter().enumerate() {
         if !event.is_legal(plant.props) {
-            let place = if faults::is(Fault::EventPlaceZero) { 0 } else if faults::is(Fault::EventPlaceLine) { n } else { 20 * n };
+            let place = if faults::is(Fault::EventPlaceZero) { 0 } else if faults::is(Fault::EventPlaceLine) { n } else { bytes * n };
             return Err(Refusal { number: 10, place });
         }
         monitor = monitor.step(&graph, *event);
@@ -143,7 +145,7 @@ fn lines(files: &Files, out: &mut String) -> Result<(), Refusal> {
         *out += &format!("n={} {}", shown, lamp(&monitor, &graph));
         shown += 1;
     }
-    log::read(&text).map(|_| ())
+    log::read(&text, plant.props).map(|_| ())
 }
 
 pub fn output(files: &Files) -> String {

@@ -1,24 +1,29 @@
 -- `turns`: line after line as the definition goes (`Gone`). Assumes nothing.
-use Prim.Native.Nat.{_-_, _*_, _/_, _^_, _≤_, _<_, zero-le}
-use mathlib.Core.Path.{_≡_, refl, sym, subst, _∙_}
-use native.Mathlib.Nat.{le-antisymm}
+use Prim.Native.Nat.{ℕ, _-_, _/_, _^_, _≤_, _<_, zero-le}
+use mathlib.Core.Path.{_≡_, refl, sym, ap, _∙_}
+use native.Mathlib.Nat.{le-antisymm, div-le-self}
 use native.Mathlib.Omega.{arith}
 use lib.ListN.{length}
 use borrow.Author.Needs.{needs}
 use borrow.Author.Tests.{not-true, not-false}
+use Rattle.text.specs.Number.{widthOf}
+use Rattle.log.specs.Read.{wholeLines}
 use Rattle.course.specs.Turns.{Gone, starts, goes-on, stops, ends, verdicts-long, lefts-long}
 use Rattle.course.proofs.turns.Statement.{statement}
 use Rattle.course.proofs.turns.Tie as tie
 
 abbrev Inv-loop : tie.InvT-loop
 Inv-loop plant label next text verdicts₀ lefts₀ ways live now₀ lines n₀ verdicts lefts now n =
-    (n ≤ lines) × (lines * 20 < 2 ^ 64) × (lines ≡ length text / 20) × Gone plant label next ways live now₀ text verdicts₀ lefts₀ n now verdicts lefts
+    (n ≤ lines) × (lines < 2 ^ 64) × (lines ≡ wholeLines (widthOf (plant .props)) text) × Gone plant label next ways live now₀ text verdicts₀ lefts₀ n now verdicts lefts
 
 abbrev μ-loop : tie.MeasureT-loop
 μ-loop plant label next text verdicts₀ lefts₀ ways live now₀ lines n₀ verdicts lefts now n = lines - n
 
 loop-holds : tie.Need-loop-holds Inv-loop μ-loop
-loop-holds c = (zero-le, omega arith, refl, starts _ _ _ _ _ _ _ _ _)
+loop-holds c =
+    let told = c .line-bytes in
+    let long = length (c .before .before .before .before .before .before .args .text .now) in
+    (zero-le, omega (arith, div-le-self long (told .result)), ap (λ (n : ℕ). long / n) (told .ensures), starts _ _ _ _ _ _ _ _ _)
 
 same-length : tie.Need-same-length Inv-loop μ-loop
 same-length c = verdicts-long _ _ _ _ _ _ _ _ _ (c .before .before .before .before .before .loop .inv .3)
@@ -59,12 +64,12 @@ loop-again c =
     )
 
 returns-2 : tie.Need-returns-2 Inv-loop μ-loop
-returns-2 c = let inv = c .before .loop .inv in ends _ _ _ _ _ _ _ _ _ (inv .3) _ (le-antisymm (inv .0) (c .loop-test .left) ∙ inv .2)
+returns-2 c = let inv = c .before .loop .inv in ends _ _ _ _ _ _ _ _ _ (inv .3) _ (le-antisymm (inv .0) (c .loop-test .left)) (inv .2)
 
 pub turns-spec : {M : Type 1} → statement M
 turns-spec =
     tie.close (tie.spec
-    Inv-loop μ-loop loop-holds (λ c κs. search needs) (λ c κs. search needs) (λ c κs. search needs) same-length same-length-2
+    Inv-loop μ-loop (λ c κs. search needs) (λ c. omega (arith, c .line-bytes .ensures)) loop-holds (λ c κs. search needs) (λ c κs. search needs) (λ c κs. search needs) same-length same-length-2
     returns (λ c κs. search needs) (λ c κs. search needs) (λ c κs. search needs) (λ c κs. search needs) (λ c. search needs)
     (λ c κs. search needs) add-n loop-less loop-again
     (λ c. verdicts-long _ _ _ _ _ _ _ _ _ (c .before .loop .inv .3)) (λ c. lefts-long _ _ _ _ _ _ _ _ _ (c .before .loop .inv .3)) returns-2)

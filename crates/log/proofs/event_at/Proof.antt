@@ -1,24 +1,12 @@
--- `log::event_at`. The line behind those below it.
-use mathlib.Core.Path.{sym}
-use borrow.Author.Tests.{lt-ltb, le-ltb}
-use Rattle.text.specs.Lines.{start-is}
-use Rattle.text.specs.LinesRead.{lineOr, lent-line}
+-- `log::event_at`. The digits are those for so many propositions.
+use mathlib.Core.Path.{ap, _∙_}
 use Rattle.log.specs.Read.{eventAt}
 use borrow.Author.Needs.{needs}
 use Rattle.log.proofs.event_at.Statement.{statement}
 use Rattle.log.proofs.event_at.Tie as tie
 
 returns : tie.Need-returns
-unfolding eventAt lineOr
-returns c =
-    let if = c .before .before .before in
-    rw (lt-ltb _ _ (if .if1 .taken)) (lent-line (if .before .before .args .text .now) _ _ _ _ (sym (start-is 20 _)) (c .before .read-line .ensures) .is)
-
-returns-2 : tie.Need-returns-2
-unfolding eventAt lineOr
-returns-2 c = rw (le-ltb _ _ (c .if1 .left))
+returns c = c .event-in .ensures ∙ ap (λ w. eventAt w (c .before .before .before .args .text .now) (c .before .before .before .args .line)) (c .before .width-of .ensures .0)
 
 pub event-at-spec : {M : Type 1} → statement M
-event-at-spec =
-    tie.close (tie.spec
-    (λ c. search needs) (λ c. search needs) (λ c. search needs) (λ c. search needs) (λ c κs. search needs) returns returns-2)
+event-at-spec = tie.close (tie.spec (λ c κs. search needs) (λ c κs. search needs) returns)

@@ -2,7 +2,9 @@
 -- Assumes nothing.
 use borrow.Author.Needs.{needs}
 use Prim.Native.Nat.{_-_, _^_, _≤_, _<_}
+use native.Mathlib.Nat.{div-le-self}
 use native.Mathlib.Omega.{arith}
+use lib.ListN.{length}
 use Rattle.timing.proofs.run_log.Statement.{statement}
 use Rattle.timing.proofs.run_log.Tie as tie
 
@@ -20,8 +22,14 @@ run-log-spec =
     μ-loop
     -- open-requires
     (λ c κs. search needs)
+    -- line-bytes-requires
+    (λ c κs. search needs)
+    -- div-n-end
+    (λ c. omega (arith, c .line-bytes .ensures))
     -- loop-holds
-    (λ c. (omega arith, omega (arith, c .before .before .before .before .before .before .good .1 .1 .1 .1 .1 .1)))
+    (λ c.
+    let start = c .before .before .before .before .before .before .before in
+    (omega arith, omega (arith, start .good .1 .1 .1 .1 .1 .1, div-le-self (length (start .args .text .now)) (c .line-bytes .result))))
     -- event-at-requires
     (λ c κs. search needs)
     -- step-requires

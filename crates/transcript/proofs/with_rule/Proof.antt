@@ -22,7 +22,7 @@ returns-2 c =
     let e = told .check-log .ensures in
     let f = c .before .before .before .before .enum-told .given .1 in
     accepted-said (λ (o : Outcome). o) (λ (o : Outcome). playedText (a .plant) (a .fair .now) (a .label .now) (a .next .now) (a .rule) (bytesOf (fileOf (a .ok) (a .log .now)))) e f
-    (log-there (a .ok) (a .log .now) (playedText (a .plant) (a .fair .now) (a .label .now) (a .next .now) (a .rule)) e f (c .before .before .play .ensures))
+    (log-there (a .plant .props) (a .ok) (a .log .now) (playedText (a .plant) (a .fair .now) (a .label .now) (a .next .now) (a .rule)) e f (c .before .before .play .ensures))
 
 pub with-rule-spec : {M : Type 1} → statement M
 with-rule-spec =

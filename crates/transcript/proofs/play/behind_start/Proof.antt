@@ -1,42 +1,64 @@
 -- `behind_start`: the course of the log, by the bytes that the loop stored. Assumes nothing.
 use borrow.Author.Needs.{needs}
-use Prim.Native.Nat.{ℕ, _/_, _≤_}
+use Prim.Native.Nat.{ℕ, _≤_}
+use native.Mathlib.Nat.{div-lt-iff-lt-mul}
 use native.Mathlib.Omega.{arith}
-use mathlib.Core.Path.{_≡_}
+use mathlib.Core.List.{List}
 use lib.ListN.{length, replicate, length-replicate}
-use Rattle.log.specs.Read.{eventAt}
-use Rattle.course.specs.Lamps.{counted}
-use Rattle.transcript.proofs.Cases.{done-few, verdicts-long, lefts-long, course-said}
+use Rattle.text.specs.Number.{widthOf, width-between}
+use Rattle.log.specs.Line.{lineBytes}
+use Rattle.log.specs.Read.{eventAt, wholeLines}
+use Rattle.course.specs.Lamps.{Counted, counted}
+use Rattle.course.specs.Course.{courseOf}
+use Rattle.transcript.proofs.Cases.{done-few, line-inside, verdicts-long, lefts-long, course-said}
 use Rattle.transcript.proofs.play.behind_start.Statement.{statement}
 use Rattle.transcript.proofs.play.behind_start.Tie as tie
 
--- the two buffers have room for as many events as a log has
-room : (n : ℕ) → n ≤ 65520 → n / 20 ≤ length (replicate {A = ℕ} 3276 0)
+-- a log has no more than 3,276 lines, however wide they are
+few-lines : (props : ℕ) (text : List ℕ) → length text ≤ 65520 → wholeLines (widthOf props) text ≤ 3276
+few-lines props text h =
+    omega (arith, div-lt-iff-lt-mul {k = lineBytes (widthOf props)} {x = length text} {y = 3277} (omega arith) .1 (omega (arith, width-between props .0)))
+
+-- and the two buffers have room for as many events
+room : (n : ℕ) → n ≤ 3276 → n ≤ length (replicate {A = ℕ} 3276 0)
 room n h = omega (arith, length-replicate {A = ℕ} 3276 0)
+
+-- the course's events are counted
+module _ (c : tie.Start) where
+  abbrev lines : ℕ
+  lines = wholeLines (widthOf (c .args .plant .props)) (c .args .log .now)
+
+  told : Counted lines (courseOf (c .args .plant) (c .args .fair .now) (c .args .label .now) (c .args .next .now) (c .args .rule) (c .args .live) (c .args .monitor) (c .args .log .now))
+  told = counted (c .args .plant) (c .args .fair .now) (c .args .label .now) (c .args .next .now) (c .args .rule) (c .args .live) (c .args .monitor) (eventAt (widthOf (c .args .plant .props)) (c .args .log .now)) lines
+
+  few : lines ≤ 3276
+  few = few-lines (c .args .plant .props) (c .args .log .now) (c .pre .2)
+
+mul-offset : tie.Need-mul-offset
+mul-offset c =
+    let went = c .before .before .before in
+    let start = went .before .before .before .before .before .before .before .before in
+    record { fits = omega (arith, line-inside (start .args .plant .props) (start .args .log .now) (c .line-bytes .ensures) (done-few (told start) (went .follow .ensures)), start .pre .2) }
 
 put-went-requires : tie.Need-put-went-requires
 put-went-requires c κs =
-    let went = c .before .before .before .before .before in
+    let went = c .before .before .before .before .before .before in
     let start = went .before .before .before .before .before .before .before .before in
-    let a = start .args in
-    let p = start .pre in
-    let k = counted (a .plant) (a .fair .now) (a .label .now) (a .next .now) (a .rule) (a .live) (a .monitor) (eventAt 2 (a .log .now)) (length (a .log .now) / 20) in
     let h = went .follow .ensures in
-    let few = done-few k h in
+    let done = done-few (told start) h in
     let long = length-replicate {A = ℕ} 3276 0 in
-    (p .1, omega (arith, few, p .2), omega (arith, few, p .2, long, verdicts-long k h), omega (arith, few, p .2, long, lefts-long k h), p .3)
+    (start .pre .1, omega (arith, done, few start), omega (arith, done, few start, long, verdicts-long (told start) h), omega (arith, done, few start, long, lefts-long (told start) h), start .pre .3)
 
 returns : tie.Need-returns
 returns c =
-    let went = c .before .before .before .before .before .before .before .before in
+    let bytes = c .before .before .before .before .before .before in
+    let went = bytes .before .before .before in
     let start = went .before .before .before .before .before .before .before .before in
-    let a = start .args in
-    let k = counted (a .plant) (a .fair .now) (a .label .now) (a .next .now) (a .rule) (a .live) (a .monitor) (eventAt 2 (a .log .now)) (length (a .log .now) / 20) in
-    let much = room (length (a .log .now)) (start .pre .2) in
-    course-said k (went .follow .ensures) much much (c .before .before .put-went .ensures)
+    let much = room (lines start) (few start) in
+    course-said (told start) (went .follow .ensures) much much (start .args .plant .props) (bytes .line-bytes .ensures) (c .before .before .put-went .ensures)
 
 pub behind-start-spec : {M : Type 1} → statement M
 behind-start-spec =
     tie.close (tie.spec
-    (λ c. search needs) (λ c. search needs) (λ c κs. c .before .before .before .before .before .before .before .pre .0) (λ c. search needs) (λ c. search needs)
+    (λ c. search needs) (λ c. search needs) (λ c κs. c .before .before .before .before .before .before .before .pre .0) (λ c κs. search needs) mul-offset (λ c. search needs) (λ c. search needs)
     put-went-requires (λ c. search needs) returns)

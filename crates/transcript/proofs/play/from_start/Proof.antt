@@ -26,7 +26,7 @@ returns : tie.Need-returns
 returns c =
     let opened = c .before .before .before .before .before .before .before .before in
     let a = opened .before .before .before .before .before .before .args in
-    not-opened (λ (m : Monitor). courseOf (a .plant) (a .fair .now) (a .label .now) (a .next .now) (a .rule) (a .live) m (a .log .now)) (opened .«open» .ensures)
+    not-opened (a .plant .props) (λ (m : Monitor). courseOf (a .plant) (a .fair .now) (a .label .now) (a .next .now) (a .rule) (a .live) m (a .log .now)) (opened .«open» .ensures)
     (c .before .before .before .before .before .answer .given .1) (c .before .before .put-refused .ensures)
 
 same-length-2 : tie.Need-same-length-2
@@ -36,7 +36,7 @@ returns-2 : tie.Need-returns-2
 returns-2 c =
     let opened = c .before .before .before .before .before .before .before .before .before .before .before .before in
     let a = opened .before .before .before .before .before .before .args in
-    opened-said (λ (m : Monitor). courseOf (a .plant) (a .fair .now) (a .label .now) (a .next .now) (a .rule) (a .live) m (a .log .now)) (opened .«open» .ensures)
+    opened-said (a .plant .props) (λ (m : Monitor). courseOf (a .plant) (a .fair .now) (a .label .now) (a .next .now) (a .rule) (a .live) m (a .log .now)) (opened .«open» .ensures)
     (c .before .before .before .before .before .before .before .before .before .answer2 .given .1) (c .before .before .before .before .before .before .put-start .ensures .0)
     (c .before .before .behind-start .ensures)
 

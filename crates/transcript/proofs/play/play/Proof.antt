@@ -21,7 +21,7 @@ returns c =
     let told = c .before .before .before .before .before .before .before .before in
     let a = told .before .before .before .before .before .before .args in
     refused-said (λ (r : Prepared). r .outcome)
-    (λ (r : Prepared). openedText (openOf (a .plant) (a .fair .now) (a .label .now) (a .next .now) (a .rule) (r .live) .answer)
+    (λ (r : Prepared). openedText (a .plant .props) (openOf (a .plant) (a .fair .now) (a .label .now) (a .next .now) (a .rule) (r .live) .answer)
     (courseOf (a .plant) (a .fair .now) (a .label .now) (a .next .now) (a .rule) (r .live) (openOf (a .plant) (a .fair .now) (a .label .now) (a .next .now) (a .rule) (r .live) .monitor) (a .log .now)))
     (told .prepare .ensures) (c .before .before .before .before .before .outcome .given .1) (c .before .before .put-refused .ensures)
 
@@ -31,7 +31,7 @@ returns-2 c =
     let told = c .before .before .before .before .before .before .before in
     let a = told .before .before .before .before .before .before .args in
     accepted-said (λ (r : Prepared). r .outcome)
-    (λ (r : Prepared). openedText (openOf (a .plant) (a .fair .now) (a .label .now) (a .next .now) (a .rule) (r .live) .answer)
+    (λ (r : Prepared). openedText (a .plant .props) (openOf (a .plant) (a .fair .now) (a .label .now) (a .next .now) (a .rule) (r .live) .answer)
     (courseOf (a .plant) (a .fair .now) (a .label .now) (a .next .now) (a .rule) (r .live) (openOf (a .plant) (a .fair .now) (a .label .now) (a .next .now) (a .rule) (r .live) .monitor) (a .log .now)))
     (told .prepare .ensures) (c .before .before .before .before .enum-told .given .1) (c .before .before .from-start .ensures)
 

@@ -9,9 +9,6 @@ use Rattle.transcript.proofs.play.put_went.Tie as tie
 put-lamps-requires : tie.Need-put-lamps-requires
 put-lamps-requires c κs = let p = c .before .before .before .before .pre in (p .2, p .3, omega (arith, p .0, p .1, p .4))
 
-mul-placed : tie.Need-mul-placed
-mul-placed c = record { fits = omega (arith, c .before .before .before .before .before .before .before .before .before .before .before .pre .1) }
-
 put-refused-requires : tie.Need-put-refused-requires
 put-refused-requires c κs =
     let lamps = c .before .before .before .before .before .before .before in
@@ -32,5 +29,5 @@ returns-2 c =
 pub put-went-spec : {M : Type 1} → statement M
 put-went-spec =
     tie.close (tie.spec
-    put-lamps-requires (λ c. search needs) (λ c. search needs) mul-placed (λ c κs. search needs) put-refused-requires
+    put-lamps-requires (λ c. search needs) (λ c. search needs) (λ c κs. search needs) put-refused-requires
     (λ c. put-length (c .before .before .before .before .put-lamps .ensures .0)) returns same-length-2 returns-2)
