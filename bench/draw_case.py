@@ -1,5 +1,5 @@
 #!/usr/bin/env python3
-"""Writes a seeded case at the limits (64 states, 8 propositions, 4 fairness sets, a rule with 6 temporal operators) to a folder.
+"""Writes a seeded case at the limits (64 states, 4 fairness sets, a rule with 6 temporal operators) to a folder.
 
 usage: bench/draw_case.py FOLDER SEED [KEY=VALUE..]
 moves=2          how many moves are drawn for each state; or a shape: `chain`, each state to the one behind it and the last to itself; `stays`,
@@ -9,6 +9,7 @@ fair=16          how many states are drawn for each fairness set; or `all`, or `
 seen=0           how many propositions an event shows, on average; with 0 nothing is seen and every state is a starting state, so that as many
                  pairs as can be are held
 operators=XFGUR  the temporal operators that are drawn
+props=8          how many propositions there are; over 8 labels and events have four digits
 labels=drawn     or `rare`: each proposition at one drawn state alone
 lines=100        how many lines the log has
 rule=drawn       or `again`, G of Fp0 and .. and Fp4; `nested`, F(p0&F(p1&..Fp5)); `untils`, (..((p0Up1)Up2)..Up6); `ahead`, XXXXXXp0
@@ -21,7 +22,7 @@ import random
 import sys
 
 folder, seed = sys.argv[1], int(sys.argv[2])
-given = {'moves': '2', 'fair': '16', 'seen': '0', 'operators': 'XFGUR', 'labels': 'drawn', 'lines': '100', 'rule': 'drawn'}
+given = {'props': '8', 'moves': '2', 'fair': '16', 'seen': '0', 'operators': 'XFGUR', 'labels': 'drawn', 'lines': '100', 'rule': 'drawn'}
 for word in sys.argv[3:]:
     key, value = word.split('=')
     if key not in given:
@@ -29,7 +30,8 @@ for word in sys.argv[3:]:
     given[key] = value
 operators, seen = given['operators'], int(given['seen'])
 draw = random.Random(seed)
-STATES, PROPS, FAIR, PARTS, NODES, LINES = 64, 8, 4, 6, 32, int(given['lines'])
+STATES, PROPS, FAIR, PARTS, NODES, LINES = 64, int(given['props']), 4, 6, 32, int(given['lines'])
+DIGITS = 4 if PROPS > 8 else 2
 CODES = {'X': 4, 'F': 5, 'G': 6, 'U': 7, 'R': 8, '&': 9, '|': 10, '->': 11}
 PROP, NOT = 2, 3
 
@@ -71,7 +73,7 @@ def text(rule):
 
 def nodes(rule):
     if isinstance(rule, str):
-        return nodes(rule[1:]) + [(NOT, 0)] if rule[0] == '!' else [(PROP, int(rule[1]))]
+        return nodes(rule[1:]) + [(NOT, 0)] if rule[0] == '!' else [(PROP, int(rule[1:]))]
     return [node for operand in rule[1:] for node in nodes(operand)] + [(CODES[rule[0]], 0)]
 
 
@@ -156,9 +158,9 @@ def write(name, lines, end='\n'):
 
 write('plant.txt', ['props=%d' % PROPS, 'states=%d' % STATES, 'start=%016x' % start, 'just=%d' % FAIR]
       + ['j%d=%016x' % pair for pair in enumerate(fairs)]
-      + ['label%d=%02x\nnext%d=%016x' % (s, labels[s], s, nexts[s]) for s in range(STATES)])
+      + ['label%d=%0*x\nnext%d=%016x' % (s, DIGITS, labels[s], s, nexts[s]) for s in range(STATES)])
 write('rule.txt', [text(rule)], '')
-write('log.txt', ['see=%02x val=%02x new=0' % event for event in events])
+write('log.txt', ['see=%0*x val=%0*x new=0' % (DIGITS, see, DIGITS, val) for see, val in events])
 write('twin.txt', ['%d %d %d %d' % (PROPS, STATES, start, FAIR)] + ['%d' % fair for fair in fairs]
       + ['%d %d' % pair for pair in zip(labels, nexts)]
       + ['%d' % len(nodes(rule))] + ['%d %d' % node for node in nodes(rule)]

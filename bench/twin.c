@@ -29,7 +29,7 @@ static int takes(int op) { return op < Not ? 0 : op < Until ? 1 : 2; }
 static int is_part(int op) { return op >= Next && op <= Release; }
 
 static int check_table(Plant p, const u64 *fair, const uint16_t *label, const u64 *next) {
-    if (p.props < 1 || p.props > 8 || p.states < 1 || p.states > 64 || p.just > 4) return 1;
+    if (p.props < 1 || p.props > 16 || p.states < 1 || p.states > 64 || p.just > 4) return 1;
     u64 all = ALL >> (64 - p.states);
     if (p.start > all) return 2;
     for (size_t i = 0; i < p.just; i++) if (fair[i] > all) return 2;
@@ -73,20 +73,22 @@ NOINLINE static void shape(const Rule *r, Shape *s) {
     for (size_t k = 0; k < s->parts; k++) if (r->nodes[s->order[k]].op == Next) s->nexts |= 1ull << k;
 }
 static u64 own(size_t v, size_t k) { return k < 6 && (v >> k & 1) ? ALL : 0; }
+static u64 leaf(Node n, const uint16_t *label, size_t states) {
+    u64 having = 0;
+    if (n.op == Prop) for (size_t i = 0; i < states; i++) having |= (u64)(label[i] >> n.prop & 1) << i;
+    return having;
+}
 NOINLINE static void truths(const Rule *r, const uint16_t *label, size_t states, const Shape *s, u64 *words) {
-    u64 having[8];
-    for (int p = 0; p < 8; p++) {
-        having[p] = 0;
-        for (size_t i = 0; i < states; i++) having[p] |= (u64)(label[i] >> p & 1) << i;
-    }
+    u64 having = 0;
     memset(words, 0, 2112 * 8);
     for (size_t i = 0; i < r->len * 64; i++) {
         size_t node = i / 64, v = i % 64;
+        if (v == 0) having = leaf(r->nodes[node], label, states);
         u64 x = words[s->begins[node] * 64 + v], y = words[i], m, o = own(v, s->numbers[node]);
         switch (r->nodes[node].op) {
         case False: m = 0; break;
         case True: m = ALL; break;
-        case Prop: m = having[r->nodes[node].prop]; break;
+        case Prop: m = having; break;
         case Not: m = ~y; break;
         case And: m = x & y; break;
         case Or: m = x | y; break;
@@ -392,6 +394,8 @@ static u64 hex(Text *t, int digits) {
     }
     return n;
 }
+// How many digits a label, `see` and `val` have.
+static int digits(void) { return p.props > 8 ? 4 : 2; }
 // A line `NAMEk=` with that many digits.
 static u64 field(Text *t, const char *name, size_t k, int digits) {
     expect(t, name);
@@ -403,7 +407,7 @@ static u64 field(Text *t, const char *name, size_t k, int digits) {
 }
 static int read_table(Text t) {
     expect(&t, "props=");
-    p.props = count(&t, 1, 8);
+    p.props = count(&t, 1, 16);
     expect(&t, "\nstates=");
     p.states = count(&t, 1, 64);
     expect(&t, "\nstart=");
@@ -414,7 +418,7 @@ static int read_table(Text t) {
     if (t.bad) return 0;
     for (size_t i = 0; i < p.just; i++) fair[i] = field(&t, "j", i, 16);
     for (size_t i = 0; i < p.states; i++) {
-        label[i] = field(&t, "label", i, 2);
+        label[i] = field(&t, "label", i, digits());
         next[i] = field(&t, "next", i, 16);
     }
     return !t.bad && t.at == t.end && !check_table(p, fair, label, next);
@@ -442,7 +446,7 @@ static void read_prefix(Text *t) {
         read_level(t, ArrowLevel);
         token(t);
         expect(t, ")");
-    } else if (c == 'p') add_node(t, Prop, count(t, 0, 7));
+    } else if (c == 'p') add_node(t, Prop, count(t, 0, 15));
     else if (c == '0' || c == '1') add_node(t, c == '1' ? True : False, 0);
     else t->bad = 1;
 }
@@ -475,9 +479,9 @@ static int read_rule(Text t) {
 static int read_log(Text t) {
     for (lines = 0; t.at < t.end && !t.bad; lines++) {
         expect(&t, "see=");
-        events[lines].see = hex(&t, 2);
+        events[lines].see = hex(&t, digits());
         expect(&t, " val=");
-        events[lines].val = hex(&t, 2);
+        events[lines].val = hex(&t, digits());
         expect(&t, " new=");
         events[lines].new = count(&t, 0, 1);
         expect(&t, "\n");
@@ -544,8 +548,8 @@ static size_t follow(Monitor *m) {
 }
 // Of what is refused, only that it is: the benches hand in nothing that is.
 static int watch(void) {
-    static char plant_text[2349], rule_text[514], log_text[65521];
-    Text plant = read_file("plant.txt", plant_text, 2348), rule = read_file("rule.txt", rule_text, 513), log = read_file("log.txt", log_text, 65520);
+    static char plant_text[2478], rule_text[514], log_text[65521];
+    Text plant = read_file("plant.txt", plant_text, 2477), rule = read_file("rule.txt", rule_text, 513), log = read_file("log.txt", log_text, 65520);
     Monitor m;
     int good = read_table(plant) && read_rule(rule) && read_log(log) && !prepare(p, fair, label, next, &r, live);
     if (good) {

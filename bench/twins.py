@@ -11,6 +11,7 @@ import cases
 from witnesses import write_turns
 
 LINES = (1, 819, 1638, 3276)
+WIDE = 2730
 
 
 def programs(binaries, room, before):
@@ -83,7 +84,7 @@ def steps(drawn, room, unit, programs, measure, rounds, turns):
 
 def log_costs(room, words, programs, measure, rounds, lengths):
     """What the program takes on as many lines of a log. What it writes for a shorter log begins what it writes for a longer one."""
-    folder = cases.folder(room, words + ['lines=%d' % max(LINES)])
+    folder = cases.folder(room, words + ['lines=%d' % max(lengths)])
     path = os.path.join(folder, 'log.txt')
     with open(path) as file:
         log = file.readlines()
@@ -99,11 +100,13 @@ def log_costs(room, words, programs, measure, rounds, lengths):
 
 
 def logs(drawn, room, unit, programs, measure, rounds, whole=True):
-    """What the program takes on the longest log, where that is asked for, and for a line of it beyond the first."""
-    short, long = LINES[0], LINES[-1]
-    columns = ['%d lines' % long, 'a line'] if whole else ['a line']
+    """What the program takes on the longest log, where that is asked for, and for a line of it beyond the first. With 16 propositions lines are wider,
+    and fewer."""
+    short = LINES[0]
+    columns = ['longest log', 'a line'] if whole else ['a line']
 
     def cost(words):
+        long = WIDE if 'props=16' in words else LINES[-1]
         took = log_costs(room, words, programs, measure, rounds, (short, long))
         costs = {('a line', name): (took[long, name] - took[short, name]) / (long - short) for name in programs}
         if whole:
