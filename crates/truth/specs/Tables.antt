@@ -9,6 +9,7 @@ use Rattle.truth.specs.declared.rows.Asked.{Asked}
 use Rattle.truth.specs.declared.rows.Asked.the-variants.{Low, High, Operand, Settled}
 use Rattle.shape.specs.declared.Shape.{Shape}
 use Rattle.truth.specs.declared.tables.MoveTables.{MoveTables}
+use Rattle.truth.specs.declared.tables.RestartTables.{RestartTables}
 use Rattle.truth.specs.declared.tables.Tables.{Tables}
 
 -- the words of all places of a rule
@@ -63,3 +64,7 @@ tablesOf label rule = record {
 -- those of them that a move goes by
 abbrev pub moveTablesIn : Tables → MoveTables
 moveTablesIn t = record { parts = t .parts; nexts = t .nexts; low = t .low; high = t .high; operand = t .operand }
+
+-- and those that a restart goes by
+abbrev pub restartTablesIn : Tables → RestartTables
+restartTablesIn t = record { moves = moveTablesIn t; holds = t .holds }

@@ -1,4 +1,4 @@
--- The whole values that `tables_of`, `move_tables_of` and `holds_of` return, from what their calls ensure.
+-- The whole values that `tables_of`, `move_tables_of`, `restart_tables_of` and `holds_of` return, from what their calls ensure.
 use Prim.Native.Nat.{ℕ}
 use mathlib.Core.Path.{_≡_, ap}
 use mathlib.Core.List.{List}
@@ -9,7 +9,7 @@ use Rattle.truth.specs.declared.tables.MoveTables.{MoveTables}
 use Rattle.truth.specs.declared.tables.Tables.{Tables}
 use Rattle.truth.specs.declared.rows.Asked.the-variants.{Low, High, Operand, Settled}
 use Rattle.truth.specs.Nodes.{holdsOf}
-use Rattle.truth.specs.Tables.{wordsIn, wordsBy, rowsIn, rowsBy, moveTablesFrom, moveTablesIn, tablesFrom, tablesOf}
+use Rattle.truth.specs.Tables.{wordsIn, wordsBy, rowsIn, rowsBy, moveTablesFrom, moveTablesIn, restartTablesIn, tablesFrom, tablesOf}
 
 pub move-tables-from :
     (shape : Shape) (words low high operand : List ℕ) → low ≡ rowsBy Low shape words → high ≡ rowsBy High shape words →
@@ -45,3 +45,7 @@ module _ (label : List ℕ) (rule : Rule) (shape : Shape) (words : List ℕ) (s 
   pub holds-whole : holdsOf words (rule .len) ≡ tablesOf label rule .holds
   unfolding tablesFrom
   holds-whole = ap (λ (t : Tables). t .holds) tables-whole
+
+  pub restart-tables-whole : {t : MoveTables} {holds : List ℕ} → t ≡ moveTablesFrom shape words → holds ≡ holdsOf words (rule .len)
+      → record { moves = t; holds = holds } ≡ restartTablesIn (tablesOf label rule)
+  restart-tables-whole m h = rw (m, h, move-tables-whole, holds-whole)

@@ -11,7 +11,7 @@ use shape::shape_of;
 use syntax::Rule;
 ghost use mathlib.Core.Path.{_≡_};
 ghost use Rattle.truth.specs.Ready.{Ready};
-ghost use Rattle.truth.specs.Tables.{wordsBy, rowsBy, moveTablesFrom, moveTablesIn, tablesFrom, tablesOf};
+ghost use Rattle.truth.specs.Tables.{wordsBy, rowsBy, moveTablesFrom, moveTablesIn, restartTablesIn, tablesFrom, tablesOf};
 
 // What a move goes by.
 pub struct MoveTables {
@@ -25,7 +25,13 @@ pub struct MoveTables {
     pub operand: [u64; 384],
 }
 
-// That, and what goals and openings go by besides.
+// What a restart goes by: that, and where the rule itself holds.
+pub struct RestartTables {
+    pub moves: MoveTables,
+    pub holds: [u64; 64],
+}
+
+// All tables: a restart's, and where parts are settled, by which goals go.
 pub struct Tables {
     pub parts: usize,
     pub nexts: u64,
@@ -107,6 +113,22 @@ pub fn move_tables_of(label: &[u16], rule: Rule) -> MoveTables
     let shape = shape_of(rule);
     let nodes = words_of(label, rule, shape);
     move_tables_from(shape, &nodes.words)
+}
+
+// What a restart works out of them.
+pub fn restart_tables_of(label: &[u16], rule: Rule) -> RestartTables
+    requires { ⌜ Ready (now label) rule ⌝ }
+    ensures { λ r. ⌜ r ≡ restartTablesIn (tablesOf (now (label .entry)) rule) ⌝ }
+{
+    let len = rule.len;
+    let shape = shape_of(rule);
+    let nodes = words_of(label, rule, shape);
+    let rules = rule_words(&nodes.words, len);
+    let holds = rules.words;
+    RestartTables {
+        moves: move_tables_from(shape, &nodes.words),
+        holds,
+    }
 }
 
 // What an opening works out of them: where the rule itself holds.

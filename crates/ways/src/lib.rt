@@ -2,9 +2,11 @@
 use leads::halves::entering;
 use leads::halves::leaving;
 use syntax::Rule;
+use truth::tables::MoveTables;
 ghost use mathlib.Core.Path.{_≡_};
+ghost use Prim.Native.Nat.{_≤_};
 ghost use Rattle.truth.specs.Ready.{Ready};
-ghost use Rattle.ways.specs.Ways.{waysOf, moveWaysIn};
+ghost use Rattle.ways.specs.Ways.{waysOf, moveWaysFrom, moveWaysIn, restartWaysIn};
 
 pub struct Ways {
     // how many temporal parts the rule has, and how many valuations they have
@@ -26,8 +28,14 @@ pub struct MoveWays {
     pub enter: [u64; 1024],
 }
 
-// The one maker, for prepare, witness and whatever takes many steps. A single step asks for less: `move_ways_of`, or
-// `truth::tables::holds_of`.
+// And those that a restart goes by.
+pub struct RestartWays {
+    pub moves: MoveWays,
+    pub holds: [u64; 64],
+}
+
+// The one maker, for prepare, witness and whatever takes many steps. A single step asks for less: `move_ways_of` or `restart_ways_of`, and an
+// opening for `truth::tables::holds_of`.
 pub fn ways_of(label: &[u16], rule: Rule) -> Ways
     requires { ⌜ Ready (now label) rule ⌝ }
     ensures { λ r. ⌜ r ≡ waysOf (now (label .entry)) rule ⌝ }
@@ -50,12 +58,11 @@ pub fn ways_of(label: &[u16], rule: Rule) -> Ways
     }
 }
 
-// What a single move works out: with what it has no use for, a step would take a tenth more.
-pub fn move_ways_of(label: &[u16], rule: Rule) -> MoveWays
-    requires { ⌜ Ready (now label) rule ⌝ }
-    ensures { λ r. ⌜ r ≡ moveWaysIn (waysOf (now (label .entry)) rule) ⌝ }
+// From the tables of a rule's parts.
+fn move_ways_from(tables: MoveTables) -> MoveWays
+    requires { ⌜ tables .parts ≤ 6 ⌝ }
+    ensures { λ r. ⌜ r ≡ moveWaysFrom tables ⌝ }
 {
-    let tables = truth::tables::move_tables_of(label, rule);
     let leaves = leaving(tables.parts, &tables.low, &tables.high);
     let enters = entering(tables.parts, tables.nexts, &tables.operand);
     let count = moves::valuations(tables.parts);
@@ -65,5 +72,28 @@ pub fn move_ways_of(label: &[u16], rule: Rule) -> MoveWays
         count,
         leave,
         enter,
+    }
+}
+
+// What a single move works out: with what it has no use for, a step would take a tenth more.
+pub fn move_ways_of(label: &[u16], rule: Rule) -> MoveWays
+    requires { ⌜ Ready (now label) rule ⌝ }
+    ensures { λ r. ⌜ r ≡ moveWaysIn (waysOf (now (label .entry)) rule) ⌝ }
+{
+    let tables = truth::tables::move_tables_of(label, rule);
+    move_ways_from(tables)
+}
+
+// What a single restart works out.
+pub fn restart_ways_of(label: &[u16], rule: Rule) -> RestartWays
+    requires { ⌜ Ready (now label) rule ⌝ }
+    ensures { λ r. ⌜ r ≡ restartWaysIn (waysOf (now (label .entry)) rule) ⌝ }
+{
+    let tables = truth::tables::restart_tables_of(label, rule);
+    let moves = tables.moves;
+    let holds = tables.holds;
+    RestartWays {
+        moves: move_ways_from(moves),
+        holds,
     }
 }
