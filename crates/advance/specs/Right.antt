@@ -4,7 +4,7 @@ use native.Mathlib.Omega.{arith}
 use native.Mathlib.Nat.{lt-of-lt-of-le}
 use native.Mathlib.Decide.{decLt}
 use mathlib.Core.Path.{_≡_, refl, sym, ap, ap₂, _∙_}
-use mathlib.Core.Bool.{Bool, true, false, cond}
+use mathlib.Core.Bool.{Bool, true, false, So, _&&_, cond}
 use mathlib.Core.List.{List}
 use lib.Bits.{bitAnd}
 use lib.Dec.{ltb}
@@ -14,10 +14,11 @@ use Rattle.meaning.specs.Bit.{bit}
 use Rattle.meaning.specs.Formula.{Formula, parts}
 use Rattle.meaning.specs.Run as run
 use Rattle.meaning.specs.Limits.{AcceptedTable, Small}
-use Rattle.words.specs.Truth.{not-so}
+use Rattle.words.specs.Truth.{not-so, and-says}
 use Rattle.words.specs.Word.{onlyOf}
 use Rattle.words.specs.Below.{wordsBelow}
-use Rattle.words.specs.Laws.{bit-zero, same-bits}
+use Rattle.words.specs.Laws.{bit-zero, bit-and, same-bits}
+use Rattle.words.specs.Within.{and-same}
 use Rattle.words.specs.Lists.{words-at, words-ext, length-words}
 use Rattle.labels.specs.Labels.{agreeingOf}
 use Rattle.moves.specs.Image.{imageOf}
@@ -25,7 +26,9 @@ use Rattle.theory.specs.Alive.{valuations-few}
 use Rattle.model.specs.Sets.{PairSet}
 use Rattle.model.specs.Moves.{from, to}
 use Rattle.model.specs.Monitor as model
-use Rattle.model.specs.Values.{opens-keeps, opens-breaks}
+use Rattle.model.specs.Values.{holding-bit}
+use Rattle.model.specs.Rule.{both-set}
+use Rattle.pairs.specs.Sets.{inside, joinOf, inside-words}
 use Rattle.model.specs.Code.{moved-image}
 use Rattle.leads.specs.Halves.{fromIn, toIn}
 use Rattle.leads.specs.Right.{image-halves}
@@ -38,7 +41,7 @@ use Rattle.ways.specs.declared.Ways.{Ways}
 use Rattle.ways.specs.Ways.{waysFrom, waysOf}
 use Rattle.advance.specs.declared.Monitor.{Monitor}
 use Rattle.advance.specs.Held.{modelOf, monitorOf, eventOf}
-use Rattle.advance.specs.Sides.{sidesOf, opensIn, opensOf, cutIn, cutOf, openedBy, keptOf, movedBy, advancedBy, advancedIn}
+use Rattle.advance.specs.Sides.{sidesOf, valueIn, splitIn, splitOf, cutIn, cutOf, openedBy, keptOf, movedBy, movedIn, reachedBy, restartedBy, restartedIn, advancedBy, advancedIn}
 
 -- words that are 0 from n on may be made by a loop to 64
 words-wide : (n : ℕ) (f g : ℕ → ℕ) → n ≤ 64 → ((v : ℕ) → v < n → f v ≡ g v) → ((v : ℕ) → n ≤ v → g v ≡ 0) → wordsBelow n f ≡ wordsBelow 64 g
@@ -49,18 +52,58 @@ words-wide n f g few same beyond =
     go v l (yes h) = rw (lt-ltb v n h, lt-ltb v 64 l) (same v h)
     go v l (no h) = rw (le-ltb v n (omega arith), lt-ltb v 64 l) (sym (beyond v (omega arith)))
 
+-- of the live states that agree and are led to, those with a value; the cut to those that agree may come again
+split-word : (l a r h y : ℕ) → ((s : ℕ) → So (bit l s) → bit h s ≡ bit y s) → bitAnd (bitAnd l a) (bitAnd r h) ≡ bitAnd (bitAnd (bitAnd (bitAnd l a) r) a) y
+split-word l a r h y same = same-bits _ _ (λ s. simp bit-and (go (bit l s) (bit a s) (bit r s) (bit h s) (bit y s) (same s)))
+  where
+    go : (l a r h y : Bool) → (So l → h ≡ y) → ((l && a) && (r && h)) ≡ ((((l && a) && r) && a) && y)
+    go true true true h y e = e refl
+    go true true false h y e = refl
+    go true false r h y e = refl
+    go false a r h y e = refl
+
 module _ (T : run.Plant) (f : Formula) (A : AcceptedTable T) (small : Small f) (live : List ℕ) (z : PairSet T f live) where
   none-beyond : (x y v : ℕ) → 2 ^ parts f ≤ v → bitAnd (bitAnd (getD live v 0) x) y ≡ 0
   none-beyond x y v h = rw (same-bits (getD live v 0) 0 (λ s. not-so (bit (getD live v 0) s) (λ i. (let l = z .range s v i .1 in omega arith)) ∙ sym (bit-zero s))) refl
 
   module _ (t : Tables) (R : RightTables T f t) where
-    opens-at : (b : Bool) (v : ℕ) → v < 2 ^ parts f → model.opensAt T f live b v ≡ opensIn live (T .start) (t .holds) b v
-    opens-at true v l = opens-keeps T f A live z v (getD (t .holds) v 0) (R .holds v (lt-of-lt-of-le l (valuations-few f small)))
-    opens-at false v l = opens-breaks T f A live z v (getD (t .holds) v 0) (R .holds v (lt-of-lt-of-le l (valuations-few f small))) (R .words v)
+    -- where the rule has the value b, at a live pair
+    value-bit : (b : Bool) (v : ℕ) → v < 2 ^ parts f → (s : ℕ) → So (inside live s v) → bit (model.holding T f b v) s ≡ bit (valueIn (t .holds) b v) s
+    value-bit b v l s i =
+        holding-bit T f A v (getD (t .holds) v 0) (R .holds v (lt-of-lt-of-le l (valuations-few f small))) (R .words v) b s (z .range s v i .0)
 
-    pub opens-right : (b : Bool) → wordsBelow (2 ^ parts f) (model.opensAt T f live b) ≡ opensOf live (T .start) (t .holds) b
-    unfolding opensOf
-    opens-right b = words-wide (2 ^ parts f) (model.opensAt T f live b) (opensIn live (T .start) (t .holds) b) (valuations-few f small) (opens-at b) (λ v h. none-beyond _ _ v h)
+    opens-at : (b : Bool) (v : ℕ) → v < 2 ^ parts f → model.opensAt T f live b v ≡ splitIn live (T .start) (t .holds) b v
+    unfolding model.opensAt
+    opens-at b v l = and-same (bitAnd (getD live v 0) (T .start)) (model.holding T f b v) (valueIn (t .holds) b v)
+        (λ s i. value-bit b v l s (and-says (inside live s v) (bit (T .start) s) .0 (rw bit-and at i) .0))
+
+    pub opens-right : (b : Bool) → wordsBelow (2 ^ parts f) (model.opensAt T f live b) ≡ splitOf live (T .start) (t .holds) b
+    unfolding splitOf
+    opens-right b = words-wide (2 ^ parts f) (model.opensAt T f live b) (splitIn live (T .start) (t .holds) b) (valuations-few f small) (opens-at b) (λ v h. none-beyond _ _ v h)
+
+    -- where a set leads, split anew
+    pub split-right : (b : Bool) (led : ℕ → ℕ) (agree : ℕ)
+        → wordsBelow (2 ^ parts f) (λ v. bitAnd (bitAnd (getD live v 0) agree) (bitAnd (led v) (model.holding T f b v)))
+        ≡ splitOf (wordsBelow (2 ^ parts f) (λ v. bitAnd (bitAnd (getD live v 0) agree) (led v))) agree (t .holds) b
+    unfolding splitOf
+    split-right b led agree = words-wide (2 ^ parts f) _ (splitIn reached agree (t .holds) b) (valuations-few f small)
+        (λ v l. split-word (getD live v 0) agree (led v) (model.holding T f b v) (valueIn (t .holds) b v) (value-bit b v l) ∙ sym (ap (cut v) (reached-at v l)))
+        (λ v h. ap (cut v) (beyond v h))
+      where
+        one : ℕ → ℕ
+        one v = bitAnd (bitAnd (getD live v 0) agree) (led v)
+
+        reached : List ℕ
+        reached = wordsBelow (2 ^ parts f) one
+
+        cut : ℕ → ℕ → ℕ
+        cut v x = bitAnd (bitAnd x agree) (valueIn (t .holds) b v)
+
+        reached-at : (v : ℕ) → v < 2 ^ parts f → getD reached v 0 ≡ one v
+        reached-at v l = words-at (2 ^ parts f) one v (lt-of-lt-of-le l (valuations-few f small)) ∙ rw (lt-ltb v (2 ^ parts f) l) refl
+
+        beyond : (v : ℕ) → 2 ^ parts f ≤ v → getD reached v 0 ≡ 0
+        beyond v h = same-bits (getD reached v 0) 0 (λ s. inside-words (2 ^ parts f) one (valuations-few f small) s v ∙ rw (le-ltb v (2 ^ parts f) h) (sym (bit-zero s)))
 
     pub image-right : (held : List ℕ) → PairSet T f held → (agree : ℕ)
         → imageOf (T .next) held (from T f) (to T f) (2 ^ parts f) live agree
@@ -80,14 +123,13 @@ module _ (T : run.Plant) (f : Formula) (A : AcceptedTable T) (small : Small f) (
   abbrev w : Ways
   w = waysOf (T .label) rule
 
-  opens : (b : Bool) → wordsBelow (2 ^ parts f) (model.opensAt T f live b) ≡ opensOf live (T .start) (w .holds) b
-  unfolding waysOf
-  opens = opens-right T f A small live z (tablesOf (T .label) rule) R
-
   -- a monitor opened
   pub opened-right : openedBy (T .start) (w .holds) live ≡ monitorOf (model.opening T f live)
-  unfolding openedBy model.opening
+  unfolding openedBy model.opening waysOf
   opened-right = ap₂ (sidesOf false) (sym (opens true)) (sym (opens false))
+    where
+      opens : (b : Bool) → wordsBelow (2 ^ parts f) (model.opensAt T f live b) ≡ splitOf live (T .start) (tablesOf (T .label) rule .holds) b
+      opens = opens-right T f A small live z (tablesOf (T .label) rule) R
 
   -- and advanced
   module _ (m : Monitor) (held : (b : Bool) → PairSet T f (model.side (modelOf m) b)) (e : Event) where
@@ -103,13 +145,18 @@ module _ (T : run.Plant) (f : Formula) (A : AcceptedTable T) (small : Small f) (
     first-side seen b = rw seen (cut-right T f A small live z (λ v. getD (model.side (modelOf m) b) v 0) (model.side (modelOf m) b) agree (λ v l. refl))
 
     -- a restart
-    new-side : m .seen ≡ true → e .new ≡ true → (b : Bool) → after b ≡ cutOf (opensOf live (T .start) (w .holds) b) live agree
-    unfolding model.keptOf model.sourceAt
-    new-side seen new b = rw (seen, new) (cut-right T f A small live z (model.opensAt T f live b) (opensOf live (T .start) (w .holds) b) agree at-start)
+    new-side : m .seen ≡ true → e .new ≡ true → (b : Bool) → after b ≡ splitOf (reachedBy (T .next) (w .leave) (w .enter) (w .count) live m agree) agree (w .holds) b
+    unfolding model.keptOf model.sourceAt imageOf waysOf
+    new-side seen new b = rw (seen, new) (
+        split-right T f A small live z t R b (model.ledAt T f both) agree
+        ∙ ap (λ (x : List ℕ). splitOf x agree (t .holds) b) (image-right T f A small live z t R both (both-set T f A small live z (modelOf m) held) agree)
+        )
       where
-        at-start : (v : ℕ) → v < 2 ^ parts f → model.opensAt T f live b v ≡ getD (opensOf live (T .start) (w .holds) b) v 0
-        at-start v l =
-            rw (← opens b) (sym (words-at (2 ^ parts f) (model.opensAt T f live b) v (lt-of-lt-of-le l (valuations-few f small)) ∙ rw (lt-ltb v (2 ^ parts f) l) refl))
+        t : Tables
+        t = tablesOf (T .label) rule
+
+        both : List ℕ
+        both = joinOf (m .keeps .words) (m .breaks .words)
 
     -- a move
     next-side : m .seen ≡ true → e .new ≡ false → (b : Bool)
@@ -119,31 +166,41 @@ module _ (T : run.Plant) (f : Formula) (A : AcceptedTable T) (small : Small f) (
         moved-image T f live (modelOf m) (eventOf e) b seen new ∙ image-right T f A small live z (tablesOf (T .label) rule) R (model.side (modelOf m) b) (held b) agree
 
     abbrev moves : Monitor
-    moves = movedBy (T .next) (w .leave) (w .enter) (w .count) live m agree
+    moves = movedIn (T .next) w live m agree
 
-    pub advanced-right : advancedIn (T .start) (T .label) (T .next) w live m e ≡ monitorOf (model.stepOf T f live (modelOf m) (eventOf e))
-    unfolding advancedBy keptOf movedBy openedBy model.stepOf
+    abbrev restarts : Monitor
+    restarts = restartedIn (T .next) w live m agree
+
+    pub advanced-right : advancedIn (T .label) (T .next) w live m e ≡ monitorOf (model.stepOf T f live (modelOf m) (eventOf e))
+    unfolding advancedBy keptOf movedBy restartedBy model.stepOf
     advanced-right = by-seen (m .seen) refl
       where
-        by-new : m .seen ≡ true → (n : Bool) → e .new ≡ n → cond n (keptOf (openedBy (T .start) (w .holds) live) live agree) moves ≡ sidesOf true (after true) (after false)
+        by-new : m .seen ≡ true → (n : Bool) → e .new ≡ n → cond n restarts moves ≡ sidesOf true (after true) (after false)
         by-new seen true new = ap₂ (sidesOf true) (sym (new-side seen new true)) (sym (new-side seen new false))
         by-new seen false new = ap₂ (sidesOf true) (sym (next-side seen new true)) (sym (next-side seen new false))
 
         by-seen : (s : Bool) → m .seen ≡ s
-            → cond s (cond (e .new) (keptOf (openedBy (T .start) (w .holds) live) live agree) moves) (keptOf m live agree) ≡ sidesOf true (after true) (after false)
+            → cond s (cond (e .new) restarts moves) (keptOf m live agree) ≡ sidesOf true (after true) (after false)
         by-seen true seen = by-new seen (e .new) refl
         by-seen false seen = ap₂ (sidesOf true) (sym (first-side seen true)) (sym (first-side seen false))
 
--- ---- for code: the monitor advanced, in each of the three cases
+-- ---- for code: the two sides after a restart, and the monitor advanced, in each of the three cases
 
-module _ (start : ℕ) (label next leave enter holds : List ℕ) (count : ℕ) (live : List ℕ) (m : Monitor) (e : Event) where
+pub restarted-whole : (next leave enter holds : List ℕ) (count : ℕ) (live : List ℕ) (m : Monitor) (agree : ℕ) {both reached keeps breaks : List ℕ}
+    → both ≡ joinOf (m .keeps .words) (m .breaks .words) → reached ≡ imageOf next both (fromIn leave) (toIn enter) count live agree
+    → keeps ≡ splitOf reached agree holds true → breaks ≡ splitOf reached agree holds false
+    → sidesOf true keeps breaks ≡ restartedBy next leave enter holds count live m agree
+unfolding restartedBy
+restarted-whole next leave enter holds count live m agree eb er ek el = rw (ek, el, er, eb)
+
+module _ (label next leave enter holds : List ℕ) (count : ℕ) (live : List ℕ) (m : Monitor) (e : Event) where
   abbrev advanced : Monitor
-  advanced = advancedBy start label next leave enter holds count live m e
+  advanced = advancedBy label next leave enter holds count live m e
 
   module _ {agree : ℕ} {n : Monitor} (a : agree ≡ agreeingOf label (e .see) (e .val)) where
-    pub advanced-new : {o : Monitor} → m .seen ≡ true → e .new ≡ true → o ≡ openedBy start holds live → n ≡ keptOf o live agree → n ≡ advanced
+    pub advanced-new : m .seen ≡ true → e .new ≡ true → n ≡ restartedBy next leave enter holds count live m agree → n ≡ advanced
     unfolding advancedBy
-    advanced-new seen new eo en = en ∙ rw (seen, new, eo, a)
+    advanced-new seen new en = en ∙ rw (seen, new, a)
 
     pub advanced-next : m .seen ≡ true → e .new ≡ false → n ≡ movedBy next leave enter count live m agree → n ≡ advanced
     unfolding advancedBy

@@ -5,6 +5,7 @@ use mathlib.Core.List.{List}
 use lib.Bits.{bitAnd}
 use lib.ListN.{getD}
 use Rattle.words.specs.Below.{wordsBelow}
+use Rattle.pairs.specs.Sets.{joinOf}
 use Rattle.moves.specs.Image.{imageOf}
 use Rattle.leads.specs.Halves.{fromIn, toIn}
 use Rattle.labels.specs.Labels.{agreeingOf}
@@ -15,12 +16,16 @@ use Rattle.advance.specs.declared.Monitor.{Monitor}
 abbrev pub sidesOf : Bool → List ℕ → List ℕ → Monitor
 sidesOf seen keeps breaks = record { seen = seen; keeps = record { words = keeps }; breaks = record { words = breaks } }
 
--- of each word of `live`, the states of `start` where the rule has the value `keeps`
-abbrev pub opensIn : List ℕ → ℕ → List ℕ → Bool → ℕ → ℕ
-opensIn live start holds keeps v = bitAnd (bitAnd (getD live v 0) start) (cond keeps (getD holds v 0) (2 ^ 64 - 1 - getD holds v 0))
+-- the states where the rule has the value `keeps`, by where it holds
+abbrev pub valueIn : List ℕ → Bool → ℕ → ℕ
+valueIn holds keeps v = cond keeps (getD holds v 0) (2 ^ 64 - 1 - getD holds v 0)
 
-unfoldable pub opensOf : List ℕ → ℕ → List ℕ → Bool → List ℕ
-opensOf live start holds keeps = wordsBelow 64 (opensIn live start holds keeps)
+-- of each word of `held`, the states of `among` with that value
+abbrev pub splitIn : List ℕ → ℕ → List ℕ → Bool → ℕ → ℕ
+splitIn held among holds keeps v = bitAnd (bitAnd (getD held v 0) among) (valueIn holds keeps v)
+
+unfoldable pub splitOf : List ℕ → ℕ → List ℕ → Bool → List ℕ
+splitOf held among holds keeps = wordsBelow 64 (splitIn held among holds keeps)
 
 -- of the pairs held, the live ones with states of `agree`
 abbrev pub cutIn : List ℕ → List ℕ → ℕ → ℕ → ℕ
@@ -31,7 +36,7 @@ cutOf held live agree = wordsBelow 64 (cutIn held live agree)
 
 -- both sides, before any event
 unfoldable pub openedBy : ℕ → List ℕ → List ℕ → Monitor
-openedBy start holds live = sidesOf false (opensOf live start holds true) (opensOf live start holds false)
+openedBy start holds live = sidesOf false (splitOf live start holds true) (splitOf live start holds false)
 
 -- with no move, and with one
 unfoldable pub keptOf : Monitor → List ℕ → ℕ → Monitor
@@ -41,16 +46,28 @@ unfoldable pub movedBy : List ℕ → List ℕ → List ℕ → ℕ → List ℕ
 movedBy next leave enter count live m agree =
     sidesOf true (imageOf next (m .keeps .words) (fromIn leave) (toIn enter) count live agree) (imageOf next (m .breaks .words) (fromIn leave) (toIn enter) count live agree)
 
+-- where both sides lead
+abbrev pub reachedBy : List ℕ → List ℕ → List ℕ → ℕ → List ℕ → Monitor → ℕ → List ℕ
+reachedBy next leave enter count live m agree = imageOf next (joinOf (m .keeps .words) (m .breaks .words)) (fromIn leave) (toIn enter) count live agree
+
+-- and that split anew: a restart
+unfoldable pub restartedBy : List ℕ → List ℕ → List ℕ → List ℕ → ℕ → List ℕ → Monitor → ℕ → Monitor
+restartedBy next leave enter holds count live m agree =
+    let reached = reachedBy next leave enter count live m agree in sidesOf true (splitOf reached agree holds true) (splitOf reached agree holds false)
+
 -- by all that a rule says
 abbrev pub movedIn : List ℕ → Ways → List ℕ → Monitor → ℕ → Monitor
 movedIn next w live m agree = movedBy next (w .leave) (w .enter) (w .count) live m agree
 
--- at the first event the pairs held, at a restart those at the start, else where moves lead
-unfoldable pub advancedBy : ℕ → List ℕ → List ℕ → List ℕ → List ℕ → List ℕ → ℕ → List ℕ → Monitor → Event → Monitor
-advancedBy start label next leave enter holds count live m e =
+abbrev pub restartedIn : List ℕ → Ways → List ℕ → Monitor → ℕ → Monitor
+restartedIn next w live m agree = restartedBy next (w .leave) (w .enter) (w .holds) (w .count) live m agree
+
+-- at the first event the pairs held, at a restart the moves of both sides split anew, else the moves of each
+unfoldable pub advancedBy : List ℕ → List ℕ → List ℕ → List ℕ → List ℕ → ℕ → List ℕ → Monitor → Event → Monitor
+advancedBy label next leave enter holds count live m e =
     let agree = agreeingOf label (e .see) (e .val) in
-    cond (m .seen) (cond (e .new) (keptOf (openedBy start holds live) live agree) (movedBy next leave enter count live m agree)) (keptOf m live agree)
+    cond (m .seen) (cond (e .new) (restartedBy next leave enter holds count live m agree) (movedBy next leave enter count live m agree)) (keptOf m live agree)
 
 -- by all that a rule says
-abbrev pub advancedIn : ℕ → List ℕ → List ℕ → Ways → List ℕ → Monitor → Event → Monitor
-advancedIn start label next w live m e = advancedBy start label next (w .leave) (w .enter) (w .holds) (w .count) live m e
+abbrev pub advancedIn : List ℕ → List ℕ → Ways → List ℕ → Monitor → Event → Monitor
+advancedIn label next w live m e = advancedBy label next (w .leave) (w .enter) (w .holds) (w .count) live m e

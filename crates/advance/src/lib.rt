@@ -6,10 +6,10 @@ pub mod sides;
 use answers::Lamp;
 use answers::Verdict;
 use log::Event;
-use opening::opened;
 use pairs::Pairs;
 use sides::kept;
 use sides::moved;
+use sides::restarted;
 ghost use mathlib.Core.Path.{_≡_};
 ghost use Prim.Native.Nat.{_≤_};
 ghost use lib.ListN.{length};
@@ -33,7 +33,6 @@ impl Monitor {
 
 // At the first event nothing moves, and its restart flag is not looked at.
 pub fn advance<'a>(
-    start: u64,
     label: &[u16],
     next: &[u64],
     leave: &'a [u64; 1024],
@@ -45,12 +44,12 @@ pub fn advance<'a>(
     event: Event,
 ) -> Monitor
     requires { ⌜ (length (now label) ≤ 64) × (count ≤ 64) ⌝ }
-    ensures { λ r. ⌜ r ≡ advancedBy start (now (label .entry)) (now (next .entry)) (now (leave .entry)) (now (enter .entry)) (now (holds .entry)) count (now (live .entry)) monitor event ⌝ }
+    ensures { λ r. ⌜ r ≡ advancedBy (now (label .entry)) (now (next .entry)) (now (leave .entry)) (now (enter .entry)) (now (holds .entry)) count (now (live .entry)) monitor event ⌝ }
 {
     let agree = labels::agreeing(label, event.see, event.val);
     if monitor.seen {
         if event.new {
-            return kept(opened(start, holds, live), live, agree);
+            return restarted(next, leave, enter, holds, count, live, monitor, agree);
         }
         return moved(next, leave, enter, count, live, monitor, agree);
     }

@@ -2,16 +2,16 @@
 use crate::Monitor;
 use pairs::Pairs;
 ghost use mathlib.Core.Path.{_≡_};
-ghost use Rattle.advance.specs.Sides.{opensOf, openedBy};
+ghost use Rattle.advance.specs.Sides.{splitOf, openedBy};
 
-// Of each word of `live`, the states of `start` where the rule has the asked value.
-fn opens(live: &[u64; 64], start: u64, holds: &[u64; 64], keeps: bool) -> Pairs
-    ensures { λ r. ⌜ r .words ≡ opensOf (now (live .entry)) start (now (holds .entry)) keeps ⌝ }
+// Of each word of `held`, the states of `among` where the rule has the asked value.
+pub fn split(held: &[u64; 64], among: u64, holds: &[u64; 64], keeps: bool) -> Pairs
+    ensures { λ r. ⌜ r .words ≡ splitOf (now (held .entry)) among (now (holds .entry)) keeps ⌝ }
 {
     let mut words = [0u64; 64];
     for v in 0..64 {
-        let held = words::entry(holds, v);
-        words[v] = words::entry(live, v) & start & words::choose(keeps, held, !held);
+        let truth = words::entry(holds, v);
+        words[v] = words::entry(held, v) & among & words::choose(keeps, truth, !truth);
     }
     Pairs { words }
 }
@@ -20,8 +20,8 @@ fn opens(live: &[u64; 64], start: u64, holds: &[u64; 64], keeps: bool) -> Pairs
 pub fn opened(start: u64, holds: &[u64; 64], live: &[u64; 64]) -> Monitor
     ensures { λ r. ⌜ r ≡ openedBy start (now (holds .entry)) (now (live .entry)) ⌝ }
 {
-    let keeps = opens(live, start, holds, true);
-    let breaks = opens(live, start, holds, false);
+    let keeps = split(live, start, holds, true);
+    let breaks = split(live, start, holds, false);
     Monitor {
         seen: false,
         keeps,

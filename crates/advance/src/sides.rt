@@ -1,10 +1,11 @@
-// Where runs can be after one more event: where they were, or where moves lead.
+// Where runs can be after one more event: where they were, or where moves lead, by the old split or a new one.
 use crate::Monitor;
+use crate::opening::split;
 use leads::images::image;
 use pairs::Pairs;
 ghost use mathlib.Core.Path.{_≡_};
 ghost use Prim.Native.Nat.{_≤_};
-ghost use Rattle.advance.specs.Sides.{cutOf, keptOf, movedBy};
+ghost use Rattle.advance.specs.Sides.{cutOf, keptOf, movedBy, restartedBy};
 
 // Of the pairs held, the live ones with states of `agree`.
 fn cut(held: &[u64; 64], live: &[u64; 64], agree: u64) -> Pairs
@@ -57,5 +58,30 @@ pub fn moved<'a>(
         seen: true,
         keeps,
         breaks,
+    }
+}
+
+// A restart: the image of both sets as one, split anew by where the rule holds. What is reached agrees already, so the split cuts no more away.
+pub fn restarted<'a>(
+    next: &[u64],
+    leave: &'a [u64; 1024],
+    enter: &'a [u64; 1024],
+    holds: &'a [u64; 64],
+    count: usize,
+    live: &[u64; 64],
+    monitor: Monitor,
+    agree: u64,
+) -> Monitor
+    requires { ⌜ count ≤ 64 ⌝ }
+    ensures { λ r. ⌜ r ≡ restartedBy (now (next .entry)) (now (leave .entry)) (now (enter .entry)) (now (holds .entry)) count (now (live .entry)) monitor agree ⌝ }
+{
+    let keeps = monitor.keeps;
+    let breaks = monitor.breaks;
+    let both = keeps.join(breaks);
+    let reached = image(next, leave, enter, count, &both.words, live, agree);
+    Monitor {
+        seen: true,
+        keeps: split(&reached.words, agree, holds, true),
+        breaks: split(&reached.words, agree, holds, false),
     }
 }

@@ -79,7 +79,7 @@ turnOf true old new = record { answer = Answers.Shown (lampIn (modelOf new)); mo
 turnOf false old new = record { answer = Answers.Refused (refusedAt EventKind 0); monitor = old }
 
 abbrev pub turn : Plant → List ℕ → List ℕ → Ways → Pairs → Monitor → Event → Watched
-turn p label next w live m e = turnOf (legalOf e (p .props)) m (advancedIn (p .start) label next w (live .words) m e)
+turn p label next w live m e = turnOf (legalOf e (p .props)) m (advancedIn label next w (live .words) m e)
 
 abbrev pub courseIn : Plant → List ℕ → List ℕ → Ways → Pairs → Monitor → List ℕ → Course
 courseIn p label next w live m text = courseTo (turn p label next w live) m (eventAt (widthOf (p .props)) text) (wholeLines (widthOf (p .props)) text)

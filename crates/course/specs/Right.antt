@@ -64,7 +64,7 @@ module _ (p : Plant) (fair label next : List ℕ) (rule : Rule) (given : Input p
       after : model.Monitor
       after = model.stepOf (T p fair label next rule) (f p fair label next rule) (live .words) (modelOf m) (eventOf e)
 
-      new : advancedIn (p .start) label next (waysOf label rule) (live .words) m e ≡ monitorOf after
+      new : advancedIn label next (waysOf label rule) (live .words) m e ≡ monitorOf after
       new = advanced-right (T p fair label next rule) (f p fair label next rule) (given .table) (given .few) rule (right given) (live .words) fits m held e
 
       shown : (b : Bool) → turnOf b m (monitorOf after) ≡ watching.takes b m after

@@ -58,11 +58,11 @@ module _ (p : Plant) (label next : List ℕ) (w : Ways) (live : Pairs) (m : Moni
   module _ {n : ℕ} {now : Monitor} {verdicts lefts : List ℕ} (g : Gone n now verdicts lefts) {e : Event} (line : e ≡ event n) where
     -- the next line, by whether its event is legal
     on : (b : Bool) → legalOf e (p .props) ≡ b
-        → at (suc n) ≡ takes (standing now (g .lamps)) (turnOf b now (advancedIn (p .start) label next w (live .words) now e)) (turnOf b now (advancedIn (p .start) label next w (live .words) now e) .answer)
+        → at (suc n) ≡ takes (standing now (g .lamps)) (turnOf b now (advancedIn label next w (live .words) now e)) (turnOf b now (advancedIn label next w (live .words) now e) .answer)
     unfolding courseTo
     on b legal = rw (g .is, ← line, legal) refl
 
-    pub goes-on : {new : Monitor} {shown : Lamp} {verdict left : ℕ} → legalOf e (p .props) ≡ true → new ≡ advancedIn (p .start) label next w (live .words) now e
+    pub goes-on : {new : Monitor} {shown : Lamp} {verdict left : ℕ} → legalOf e (p .props) ≡ true → new ≡ advancedIn label next w (live .words) now e
         → shown ≡ lampIn (modelOf new) → verdict ≡ numberOf (shown .verdict) → left ≡ shown .left % 256
         → {verdicts' lefts' : List ℕ} → verdicts' ≡ set verdicts n verdict → lefts' ≡ set lefts n left → Gone (n + 1) new verdicts' lefts'
     goes-on {new} {shown} legal moves shows v l ev el = record {

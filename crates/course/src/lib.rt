@@ -61,7 +61,6 @@ fn turns(
             };
         }
         now = advance(
-            plant.start,
             label,
             next,
             &ways.leave,

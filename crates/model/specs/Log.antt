@@ -1,7 +1,7 @@
 -- Whole logs: the sets, the verdict and the states left after any list of events mean what they should, and the verdict only narrows
 -- with one more event, a better sensor or a smaller table.
-use Prim.Native.Nat.{ℕ}
-use mathlib.Core.Path.{_≡_, refl, subst}
+use Prim.Native.Nat.{ℕ, suc}
+use mathlib.Core.Path.{_≡_, refl, ap, subst}
 use mathlib.Core.Bool.{Bool, true, false, So, cond, not}
 use mathlib.Core.List.{List, [], _∷_, _++_, foldl, Forall₂, Forall₂·nil, Forall₂·cons}
 use lib.ListN.{length}
@@ -10,12 +10,12 @@ use Rattle.pairs.specs.Sets.{inside, emptyOf}
 use Rattle.meaning.specs.Says.{Says}
 use Rattle.meaning.specs.Formula.{Formula}
 use Rattle.meaning.specs.Run.{Plant, Lasso}
-use Rattle.meaning.specs.Event.{Seen, Event, History, none, more, now, grow, since}
-use Rattle.meaning.specs.Verdict.{Chosen, At, Possible, CanBe, Right}
+use Rattle.meaning.specs.Event.{Seen, Event, History, none, more, again, now, grow, since}
+use Rattle.meaning.specs.Verdict.{Agreeing, Chosen, At, Possible, CanBe, Right}
 use Rattle.meaning.specs.Limits.{AcceptedTable, Small}
-use Rattle.meaning.specs.Sense.{since-more}
+use Rattle.meaning.specs.Sense.{since-grow, since-more}
 use Rattle.theory.specs.Join.{after}
-use Rattle.theory.specs.Narrow.{Narrower, verdict-narrows, Finer, FinerHistory, Smaller, finer-fewer, more-fewer, smaller-fewer}
+use Rattle.theory.specs.Narrow.{Narrower, verdict-narrows, Finer, FinerHistory, Smaller, finer-fewer, more-fewer, grow-agrees, smaller-fewer}
 use Rattle.model.specs.LiveSet.{liveSet}
 use Rattle.model.specs.Monitor.{Monitor, side, runOf, verdict, left}
 use Rattle.model.specs.Means.{Means, means-run}
@@ -30,14 +30,19 @@ snoc₂ : {es es' : List Seen} (e e' : Seen) → Forall₂ Finer es es' → Fine
 snoc₂ e e' Forall₂·nil k = Forall₂·cons k Forall₂·nil
 snoc₂ e e' (Forall₂·cons h t) k = Forall₂·cons h (snoc₂ e e' t k)
 
--- so what the logs leave is finer too
+-- a finer list is as long
+as-long : {es es' : List Seen} → Forall₂ Finer es es' → length es ≡ length es'
+as-long Forall₂·nil = refl
+as-long (Forall₂·cons h t) = ap suc (as-long t)
+
+-- so what the logs tell is finer too
 pub since-finer : (es es' : List Event) → FinerLog es es' → FinerHistory (since es) (since es')
 unfolding since grow
 since-finer es es' k = go k none none (Forall₂·nil, refl)
   where
     one : (h h' : History) (e e' : Seen) (new : Bool) → FinerHistory h h' → Finer e e'
-        → FinerHistory (cond new (more none e) (more h e)) (cond new (more none e') (more h' e'))
-    one h h' e e' true t k = (Forall₂·cons k Forall₂·nil, refl)
+        → FinerHistory (cond new (again h e) (more h e)) (cond new (again h' e') (more h' e'))
+    one h h' e e' true t k = (snoc₂ e e' (t .0) k, as-long (t .0))
     one h h' e e' false t k = (snoc₂ e e' (t .0) k, t .1)
 
     go : {es es' : List Event} → FinerLog es es' → (h h' : History) → FinerHistory h h' → FinerHistory (foldl grow h es) (foldl grow h' es')
@@ -84,6 +89,11 @@ module _ (T : Plant) (f : Formula) (A : AcceptedTable T) (small : Small f) where
   pub log-narrows : (es : List Event) (e : Event) → e .new ≡ false → Narrower (verdict (watched T f es)) (verdict (watched T f (es ++ e ∷ [])))
   log-narrows es e old = fewer-narrows T T f es (es ++ e ∷ []) A A small
       (λ b p. more-fewer T f (since es) (e .seen) b (subst (λ (h : History). Possible T f h b) (since-more es e old) p))
+
+  -- out-of-model stays, a restart or not
+  pub log-out : (es : List Event) (e : Event) → verdict (watched T f es) ≡ 3 → verdict (watched T f (es ++ e ∷ [])) ≡ 3
+  log-out es e out = log-right (es ++ e ∷ []) .out-of-model .1
+      (λ L ag. log-right es .out-of-model .0 out L (grow-agrees T (since es) e L (subst (λ (h : History). Agreeing T h L) (since-grow es e) ag)))
 
   -- request m: a better sensor never hurts
   pub finer-narrows : (es es' : List Event) → FinerLog es es' → Narrower (verdict (watched T f es)) (verdict (watched T f es'))

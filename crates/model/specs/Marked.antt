@@ -61,7 +61,7 @@ marked =
     ∷ row W (release (prop 0) (neg (prop 1))) [] (1 ∷ 1 ∷ [])
     ∷ row W (next (prop 0)) (see 3 0 ∷ see 3 0 ∷ []) (2 ∷ 1 ∷ [])
     ∷ row W (finally (prop 1)) (see 3 0 ∷ see 3 3 ∷ []) (3 ∷ 0 ∷ [])
-    ∷ row W (finally (prop 1)) (see 3 0 ∷ see 3 3 ∷ new 3 0 ∷ []) (0 ∷ 1 ∷ [])
+    ∷ row W (finally (prop 1)) (see 3 0 ∷ see 3 3 ∷ new 3 0 ∷ []) (3 ∷ 0 ∷ [])
     ∷ row (plant [] (0 ∷ 0 ∷ 0 ∷ [])) always [] (3 ∷ 0 ∷ [])
     ∷ row W (finally (prop 0)) [] (0 ∷ 1 ∷ [])
     ∷ row W (finally (prop 0)) (see 3 0 ∷ []) (0 ∷ 1 ∷ [])

@@ -5,7 +5,7 @@ use mathlib.Core.List.{List, foldl}
 use lib.Bits.{bitAnd}
 use lib.ListN.{getD}
 use Rattle.words.specs.Below.{wordOf, wordsBelow}
-use Rattle.pairs.specs.Sets.{emptyOf, leftOf}
+use Rattle.pairs.specs.Sets.{joinOf, emptyOf, leftOf}
 use Rattle.moves.specs.Image.{reachedAt}
 use Rattle.labels.specs.Labels.{agreeingOf}
 use Rattle.meaning.specs.Formula.{Formula}
@@ -29,6 +29,10 @@ side m b = cond b (m .keeps) (m .breaks)
 unfoldable pub holding : Plant → Formula → Bool → ℕ → ℕ
 holding T f b v = wordOf (T .states) (λ s. Bool·beq (value f 0 (labelOf T s) v) b)
 
+-- where the moves of a set lead
+abbrev pub ledAt : Plant → Formula → List ℕ → ℕ → ℕ
+ledAt T f old w = reachedAt (T .next) old (from T f) (to T f) (valuations T f) w
+
 module _ (T : Plant) (f : Formula) (live : List ℕ) where
   -- the live pairs at starting states where the rule has the value b
   unfoldable pub opensAt : Bool → ℕ → ℕ
@@ -37,11 +41,12 @@ module _ (T : Plant) (f : Formula) (live : List ℕ) where
   unfoldable pub opening : Monitor
   opening = record { seen = false; keeps = wordsBelow (valuations T f) (opensAt true); breaks = wordsBelow (valuations T f) (opensAt false) }
 
-  -- what the new pairs of side b come from: at the first event the pairs held, at a restart after it the start, otherwise the moves
+  -- what the new pairs of side b come from: at the first event the pairs held; at a restart after it the moves of both sets, where the rule has
+  -- the value b; otherwise the moves of the side
   unfoldable pub sourceAt : Monitor → Bool → Bool → ℕ → ℕ
   sourceAt m new b w =
       cond (m .seen)
-      (cond new (opensAt b w) (reachedAt (T .next) (side m b) (from T f) (to T f) (valuations T f) w))
+      (cond new (bitAnd (ledAt T f (joinOf (m .keeps) (m .breaks)) w) (holding T f b w)) (ledAt T f (side m b) w))
       (getD (side m b) w 0)
 
   -- of these, the live ones whose label agrees

@@ -2,10 +2,8 @@
 use Prim.Native.Nat.{ℕ, _+_, _-_, _^_, _<_}
 use native.Mathlib.Nat.{lt-of-lt-of-le}
 use mathlib.Core.Path.{_≡_, sym, ap, ap₂, _∙_}
-use mathlib.Core.Bool.{Bool, true, false, _&&_, _||_, not, Bool·beq}
-use mathlib.Core.List.{List}
+use mathlib.Core.Bool.{Bool, true, false, _&&_, _||_, not, cond, Bool·beq}
 use lib.Bits.{bitAnd, bitOr}
-use lib.ListN.{getD}
 use borrow.Author.Tests.{lt-ltb}
 use Rattle.meaning.specs.Bit.{bit}
 use Rattle.words.specs.Word.{onlyOf}
@@ -16,10 +14,8 @@ use Rattle.meaning.specs.Formula.{Formula, never, always, prop, neg, next, fina
 use Rattle.meaning.specs.Run.{Plant, labelOf}
 use Rattle.meaning.specs.Limits.{AcceptedTable}
 use Rattle.meaning.specs.Step.{Value, value}
-use Rattle.model.specs.Sets.{PairSet}
-use Rattle.words.specs.Within.{and-same}
-use Rattle.model.specs.Monitor.{holding, opensAt}
-use Rattle.words.specs.Truth.{beq-true, beq-false, and-says}
+use Rattle.model.specs.Monitor.{holding}
+use Rattle.words.specs.Truth.{beq-true, beq-false}
 
 -- among the table's states, the members of x are those where g is true at the valuation v
 abbrev pub Tells : Plant → Value → ℕ → ℕ → Type 0
@@ -91,17 +87,11 @@ module _ (T : Plant) (A : AcceptedTable T) (n v : ℕ) where
     unfolding value
     shows-implies h s l = bit-or (2 ^ 64 - 1 - x) y s ∙ ap₂ _||_ (bit-complement x h s l ∙ ap not (p s l)) (q s l)
 
--- so the opening's words
-module _ (T : Plant) (f : Formula) (A : AcceptedTable T) (live : List ℕ) (z : PairSet T f live) (v x : ℕ) (p : Shows T f 0 v x) where
-  opens : (b : Bool) (y : ℕ) → ((s : ℕ) → s < T .states → bit y s ≡ Bool·beq (value f 0 (labelOf T s) v) b)
-      → opensAt T f live b v ≡ bitAnd (bitAnd (getD live v 0) (T .start)) y
-  unfolding opensAt holding
-  opens b y h = and-same (bitAnd (getD live v 0) (T .start)) (holding T f b v) y (λ s i.
-      let l : s < T .states = z .range s v (and-says (bit (getD live v 0) s) (bit (T .start) s) .0 (rw bit-and at i) .0) .0 in
-      word-at (T .states) (λ s. Bool·beq (value f 0 (labelOf T s) v) b) s l ∙ sym (h s l))
-
-  pub opens-keeps : opensAt T f live true v ≡ bitAnd (bitAnd (getD live v 0) (T .start)) x
-  opens-keeps = opens true x (λ s l. p s l ∙ sym (beq-true (value f 0 (labelOf T s) v)))
-
-  pub opens-breaks : x < 2 ^ 64 → opensAt T f live false v ≡ bitAnd (bitAnd (getD live v 0) (T .start)) (2 ^ 64 - 1 - x)
-  opens-breaks h = opens false (2 ^ 64 - 1 - x) (λ s l. bit-complement T A 0 v x h s l ∙ ap not (p s l) ∙ sym (beq-false (value f 0 (labelOf T s) v)))
+-- so the states where the rule has the value b
+module _ (T : Plant) (f : Formula) (A : AcceptedTable T) (v x : ℕ) (p : Shows T f 0 v x) (fits : x < 2 ^ 64) where
+  pub holding-bit : (b : Bool) (s : ℕ) → s < T .states → bit (holding T f b v) s ≡ bit (cond b x (2 ^ 64 - 1 - x)) s
+  unfolding holding
+  holding-bit true s l = word-at (T .states) (λ s. Bool·beq (value f 0 (labelOf T s) v) true) s l ∙ beq-true (value f 0 (labelOf T s) v) ∙ sym (p s l)
+  holding-bit false s l =
+      word-at (T .states) (λ s. Bool·beq (value f 0 (labelOf T s) v) false) s l
+      ∙ beq-false (value f 0 (labelOf T s) v) ∙ ap not (sym (p s l)) ∙ sym (bit-complement T A 0 v x fits s l)

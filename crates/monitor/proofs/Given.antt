@@ -161,7 +161,7 @@ module _ (p : Plant) (fair label next : List ℕ) (rule : Rule) where
       unfolding stepOf
       not-stepped g = ap (λ (z : Outcome). watched z m after) (sym g ∙ step-checked)
 
-      pub is-stepped : {n : Monitor} {a : Answer} → o ≡ Accepted → n ≡ advancedIn (p .start) label next (waysOf label rule) (live .words) m event → a ≡ lampOf (modelOf n) → watchedWith a n ≡ stepOf p fair label next rule live m event
+      pub is-stepped : {n : Monitor} {a : Answer} → o ≡ Accepted → n ≡ advancedIn label next (waysOf label rule) (live .words) m event → a ≡ lampOf (modelOf n) → watchedWith a n ≡ stepOf p fair label next rule live m event
       unfolding stepOf
       is-stepped g en el =
           let (i, all) = step-accepted g in

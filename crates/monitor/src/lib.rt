@@ -151,7 +151,7 @@ pub fn step(
             monitor,
         },
         Outcome::Accepted => {
-            let stepped = single::stepped(plant.start, label, next, rule, live, monitor, event);
+            let stepped = single::stepped(label, next, rule, live, monitor, event);
             Watched {
                 answer: lamp(stepped),
                 monitor: stepped,

@@ -8,7 +8,7 @@ use syntax::Rule;
 ghost use mathlib.Core.Path.{_≡_};
 ghost use Rattle.truth.specs.Ready.{Ready};
 ghost use Rattle.ways.specs.Ways.{waysOf};
-ghost use Rattle.advance.specs.Sides.{openedBy, movedIn, advancedIn};
+ghost use Rattle.advance.specs.Sides.{openedBy, movedIn, restartedIn, advancedIn};
 
 pub fn opened(start: u64, label: &[u16], rule: Rule, live: Pairs) -> Monitor
     requires { ⌜ Ready (now label) rule ⌝ }
@@ -41,9 +41,32 @@ pub fn moved(
     )
 }
 
+pub fn restarted(
+    label: &[u16],
+    next: &[u64],
+    rule: Rule,
+    live: Pairs,
+    monitor: Monitor,
+    agree: u64,
+) -> Monitor
+    requires { ⌜ Ready (now label) rule ⌝ }
+    ensures { λ r. ⌜ r ≡ restartedIn (now (next .entry)) (waysOf (now (label .entry)) rule) (live .words) monitor agree ⌝ }
+{
+    let ways = ways::restart_ways_of(label, rule);
+    sides::restarted(
+        next,
+        &ways.moves.leave,
+        &ways.moves.enter,
+        &ways.holds,
+        ways.moves.count,
+        &live.words,
+        monitor,
+        agree,
+    )
+}
+
 // The cases are those of `advance::advance`.
 pub fn stepped(
-    start: u64,
     label: &[u16],
     next: &[u64],
     rule: Rule,
@@ -52,12 +75,12 @@ pub fn stepped(
     event: Event,
 ) -> Monitor
     requires { ⌜ Ready (now label) rule ⌝ }
-    ensures { λ r. ⌜ r ≡ advancedIn start (now (label .entry)) (now (next .entry)) (waysOf (now (label .entry)) rule) (live .words) monitor event ⌝ }
+    ensures { λ r. ⌜ r ≡ advancedIn (now (label .entry)) (now (next .entry)) (waysOf (now (label .entry)) rule) (live .words) monitor event ⌝ }
 {
     let agree = labels::agreeing(label, event.see, event.val);
     if monitor.seen {
         if event.new {
-            return sides::kept(opened(start, label, rule, live), &live.words, agree);
+            return restarted(label, next, rule, live, monitor, agree);
         }
         return moved(label, next, rule, live, monitor, agree);
     }

@@ -69,7 +69,7 @@ module _ (p : Plant) (fair label next : List ℕ) (rule : Rule) (given : Input p
   live-exactly s v = rw (watching.live-words p fair label next rule given) (live-says T f (given .table) (given .few) s v)
 
   module _ (es : List Event) (legal : AllLegal p fair label next rule es) where
-    -- what counts of the log
+    -- what the log tells: all events, and the last restart's position
     abbrev h : History
     h = since (map eventOf es)
 
@@ -93,7 +93,8 @@ module _ (p : Plant) (fair label next : List ℕ) (rule : Rule) (given : Input p
         can-says : (s : ℕ) → Says (can s) (CanBe T h s)
         can-says = occurs-says T f (given .table) (given .few) (log.watched T f (map eventOf es)) h (log.log-means T f (given .table) (given .few) (map eventOf es))
 
-    -- how a witness that is asked for now goes on: some walk that agrees with the events, joined with it, is a run of the asked kind
+    -- how a witness that is asked for now goes on: some walk that agrees with the events, joined with it, is a run of the asked kind, judged at
+    -- the last restart
     pub witness-goes-on : (b : Bool) (L : Lasso) → Witness T f (sideOf (watching.after p fair label next rule es .monitor) b) L
         → (walk : List ℕ) × (length walk ≡ now h) × Chosen T f b h (after walk L)
     witness-goes-on b L w = log.log-witness T f (given .table) (given .few) (map eventOf es) b L
@@ -105,3 +106,10 @@ module _ (p : Plant) (fair label next : List ℕ) (rule : Rule) (given : Input p
     lamp-narrows e legal' old =
         rw (after-model p fair label next rule given es legal, after-model p fair label next rule given (es ++ e ∷ []) legal', lamp-number, lamp-number, map-append)
         (log.log-narrows T f (given .table) (given .few) (map eventOf es) (eventOf e) old)
+
+    -- out-of-model stays whatever comes, a restart too
+    pub out-stays : (e : Event) → AllLegal p fair label next rule (es ++ e ∷ [])
+        → shownNumber (watching.after p fair label next rule es .answer) ≡ 3 → shownNumber (watching.after p fair label next rule (es ++ e ∷ []) .answer) ≡ 3
+    out-stays e legal' =
+        rw (after-model p fair label next rule given es legal, after-model p fair label next rule given (es ++ e ∷ []) legal', lamp-number, lamp-number, map-append)
+        (log.log-out T f (given .table) (given .few) (map eventOf es) (eventOf e))

@@ -3,15 +3,15 @@ use Prim.Native.Nat.{ℕ, zero, suc, _≤_, _<_}
 use native.Mathlib.Omega.{arith}
 use mathlib.Core.Path.{_≡_, refl, sym, _∙_}
 use mathlib.Core.Logic.{_⊎_, inl, inr}
-use mathlib.Core.Bool.{Bool, true, false, So, false≢true}
+use mathlib.Core.Bool.{Bool, true, false, So, cond, false≢true}
 use mathlib.Core.List.{List, Forall₂, Forall₂·nil, Forall₂·cons}
 use lib.ListN.{length}
 use Rattle.words.specs.Truth.{not-so}
 use Rattle.meaning.specs.Bit.{bit}
 use Rattle.meaning.specs.Formula.{Formula}
-use Rattle.meaning.specs.Run.{Plant, FairLasso, stateAt, labelOf, nextOf}
-use Rattle.meaning.specs.Event.{Seen, Agrees, seenAt, History, more}
-use Rattle.meaning.specs.Verdict.{verdictOf, Possible}
+use Rattle.meaning.specs.Run.{Plant, Lasso, FairLasso, stateAt, labelOf, nextOf}
+use Rattle.meaning.specs.Event.{Seen, Agrees, seenAt, Event, History, more, again, grow}
+use Rattle.meaning.specs.Verdict.{verdictOf, Agreeing, Possible}
 use Rattle.theory.specs.Opening.{agrees-more}
 use Rattle.theory.specs.Verdict.{verdict-inj}
 
@@ -68,6 +68,15 @@ finer-fewer T f h h' (fine, same) b (L, c) = (
 -- and after one more event
 pub more-fewer : (T : Plant) (f : Formula) (h : History) (e : Seen) (b : Bool) → Possible T f (more h e) b → Possible T f h b
 more-fewer T f h e b (L, c) = (L, record { run = c .run; agrees = agrees-more T L (h .events) e .0 (c .agrees) .0; judged = c .judged })
+
+-- no event, a restart or not, brings back a run that did not agree
+pub grow-agrees : (T : Plant) (h : History) (e : Event) (L : Lasso) → Agreeing T (grow h e) L → Agreeing T h L
+unfolding grow
+grow-agrees T h e L = go (e .new)
+  where
+    go : (new : Bool) → Agreeing T (cond new (again h (e .seen)) (more h (e .seen))) L → Agreeing T h L
+    go true (run, ag) = (run, agrees-more T L (h .events) (e .seen) .0 ag .0)
+    go false (run, ag) = (run, agrees-more T L (h .events) (e .seen) .0 ag .0)
 
 -- a table with fewer starting states and fewer moves
 pub record Smaller (T' T : Plant) : Type 0 where

@@ -1,24 +1,26 @@
--- One more event: a run goes on from a pair where it can now be, to a live pair whose label agrees.
+-- One more event: a run goes on from a pair where it can now be, to a live pair whose label agrees. At a restart the rule is judged there.
 use Prim.Native.Nat.{ℕ, suc, _≤_, _<_}
 use native.Mathlib.Omega.{arith}
 use native.Mathlib.Nat.{add-zero, suc-inj}
 use mathlib.Core.Path.{_≡_, sym, subst, ap, _∙_}
-use mathlib.Core.Logic.{_↔_}
-use mathlib.Core.Bool.{Bool, So}
+use mathlib.Core.Logic.{_↔_, ⊎-elim}
+use mathlib.Core.Bool.{Bool, true, false, So}
 use lib.ListN.{length, length-append}
 use Rattle.meaning.specs.Bit.{bit}
-use Rattle.meaning.specs.Formula.{Formula}
-use Rattle.meaning.specs.Run.{Plant, Lasso, FairLasso, stateAt, labelOf, nextOf}
-use Rattle.meaning.specs.Event.{Seen, Agrees, History, more, now}
+use Rattle.meaning.specs.Says.{Kept}
+use Rattle.meaning.specs.Formula.{Formula, Holds}
+use Rattle.meaning.specs.Run.{Plant, Lasso, FairLasso, stateAt, labelOf, labelsAlong, nextOf}
+use Rattle.meaning.specs.Event.{Seen, Agrees, History, more, again, now}
 use Rattle.meaning.specs.Pair.{PairAt, Live}
-use Rattle.meaning.specs.Step.{leads}
+use Rattle.meaning.specs.Step.{leads, HasValue, Led}
 use Rattle.meaning.specs.Verdict.{Chosen, At}
 use Rattle.theory.specs.Values.{valuesAt, pair-of}
 use Rattle.theory.specs.Join.{join, join-first, join-then, join-fair}
 use Rattle.theory.specs.From.{from, from-state, from-fair}
-use Rattle.theory.specs.Along.{pair-leads, pair-back, pair-tail}
+use Rattle.theory.specs.Along.{pair-says, pair-leads, pair-back, pair-tail}
 use Rattle.theory.specs.Opening.{agrees-more, chosen-same}
-use Rattle.words.specs.Truth.{and-says}
+use Rattle.theory.specs.Verdict.{judged}
+use Rattle.words.specs.Truth.{and-says, kept-value, kept-or}
 
 -- what is left of a fair walk makes its pairs live
 pub pair-live : (T : Plant) (f : Formula) (L : Lasso) (i s v : ℕ) → FairLasso T L → PairAt T f L i s v → Live T f s v
@@ -34,7 +36,7 @@ joined-pair T f L n L' s v p = rw (add-zero n) at (pair-tail T f (join L n L') L
 
 -- an old pair of side b leads to the new one
 abbrev pub Came : Plant → Formula → Bool → History → ℕ → ℕ → Type 0
-Came T f b h s' v' = (s : ℕ) × (v : ℕ) × (At T f b h s v × So (leads T f s v s' v'))
+Came T f b h = Led T f (At T f b h)
 
 module _ (T : Plant) (f : Formula) (b : Bool) (h : History) where
   -- a run goes on from an old pair to a live one that it leads to
@@ -97,3 +99,30 @@ module _ (T : Plant) (f : Formula) (b : Bool) (h : History) (e : Seen) (marked :
             };
             pair = rw (now-more h e marked) p';
           }
+
+module _ (T : Plant) (f : Formula) (b : Bool) (h : History) (e : Seen) where
+  -- a restart has the position of its event
+  again-now : length (h .events) ≡ now (again h e)
+  again-now = rw length-append (omega arith)
+
+  -- a restart: where a run of either kind can be after the event, and the rule's value there is that of the side
+  pub at-again : (s v : ℕ) → At T f b (again h e) s v ↔ (HasValue T f b s v × ((c : Bool) × At T f c (more h e) s v))
+  at-again s v = (back, anew)
+    where
+      -- the same run, judged at the old mark
+      back : At T f b (again h e) s v → HasValue T f b s v × ((c : Bool) × At T f c (more h e) s v)
+      back a =
+          let k = a .chosen in
+          let old : (c : Bool) → Kept c (Holds (labelsAlong T (a .lasso)) f (h .mark)) → (c : Bool) × At T f c (more h e) s v = λ c j.
+          (c, record { lasso = a .lasso; chosen = record { run = k .run; agrees = k .agrees; judged = j }; pair = a .pair }) in (
+            kept-value b (pair-says T f (a .pair)) .0 (rw again-now at (k .judged)),
+            ⊎-elim (old true) (old false) (kept-or true (judged T f h (a .lasso) (k .run))),
+          )
+
+      -- and at the new one
+      anew : HasValue T f b s v × ((c : Bool) × At T f c (more h e) s v) → At T f b (again h e) s v
+      anew (value, (_, a)) = record {
+        lasso = a .lasso;
+        chosen = record { run = a .chosen .run; agrees = a .chosen .agrees; judged = rw again-now (kept-value b (pair-says T f (a .pair)) .1 value) };
+        pair = a .pair;
+      }

@@ -5,16 +5,14 @@ use Rattle.advance.proofs.advance.Statement.{statement}
 use Rattle.advance.proofs.advance.Tie as tie
 
 returns : tie.Need-returns
-returns c =
-    let told = c .before .before .before .before in
-    advanced-new _ _ _ _ _ _ _ _ _ _ (told .agreeing .ensures) (c .before .before .before .if1 .taken) (c .before .before .if2 .taken) (c .before .opened .ensures) (c .kept .ensures)
+returns c = advanced-new _ _ _ _ _ _ _ _ _ (c .before .before .before .agreeing .ensures) (c .before .before .if1 .taken) (c .before .if2 .taken) (c .restarted .ensures)
 
 returns-2 : tie.Need-returns-2
-returns-2 c = advanced-next _ _ _ _ _ _ _ _ _ _ (c .before .before .before .agreeing .ensures) (c .before .before .if1 .taken) (c .before .if2 .left) (c .moved .ensures)
+returns-2 c = advanced-next _ _ _ _ _ _ _ _ _ (c .before .before .before .agreeing .ensures) (c .before .before .if1 .taken) (c .before .if2 .left) (c .moved .ensures)
 
 returns-3 : tie.Need-returns-3
-returns-3 c = advanced-first _ _ _ _ _ _ _ _ _ _ (c .before .before .agreeing .ensures) (c .before .if1 .left) (c .kept2 .ensures)
+returns-3 c = advanced-first _ _ _ _ _ _ _ _ _ (c .before .before .agreeing .ensures) (c .before .if1 .left) (c .kept .ensures)
 
 pub advance-spec : {M : Type 1} → statement M
 advance-spec =
-    tie.close (tie.spec (λ c κs. search needs) (λ c κs. search needs) (λ c κs. search needs) returns (λ c κs. search needs) returns-2 (λ c κs. search needs) returns-3)
+    tie.close (tie.spec (λ c κs. search needs) (λ c κs. search needs) returns (λ c κs. search needs) returns-2 (λ c κs. search needs) returns-3)

@@ -1,4 +1,4 @@
--- `opening::opens`: the words passed are those of the definition, the others still 0. Assumes nothing.
+-- `split`: the words passed are those of the definition, the others still 0. Assumes nothing.
 use Prim.Native.Nat.{_-_, _≤_, zero-le}
 use mathlib.Core.Path.{_≡_}
 use native.Mathlib.Nat.{le-antisymm}
@@ -6,15 +6,15 @@ use native.Mathlib.Omega.{arith}
 use borrow.Author.Needs.{needs}
 use Rattle.words.specs.Below.{wordsBelow}
 use Rattle.words.specs.Lists.{words-none, words-more}
-use Rattle.advance.specs.Sides.{opensIn, opensOf}
-use Rattle.advance.proofs.opening.opens.Statement.{statement}
-use Rattle.advance.proofs.opening.opens.Tie as tie
+use Rattle.advance.specs.Sides.{splitIn, splitOf}
+use Rattle.advance.proofs.opening.split.Statement.{statement}
+use Rattle.advance.proofs.opening.split.Tie as tie
 
 abbrev Inv-loop : tie.InvT-loop
-Inv-loop live start holds keeps words₀ v₀ words v = (v ≤ 64) × (words ≡ wordsBelow v (opensIn live start holds keeps))
+Inv-loop held among holds keeps words₀ v₀ words v = (v ≤ 64) × (words ≡ wordsBelow v (splitIn held among holds keeps))
 
 abbrev μ-loop : tie.MeasureT-loop
-μ-loop live start holds keeps words₀ v₀ words v = 64 - v
+μ-loop held among holds keeps words₀ v₀ words v = 64 - v
 
 loop-holds : tie.Need-loop-holds Inv-loop μ-loop
 loop-holds c = (zero-le, words-none _)
@@ -23,9 +23,9 @@ loop-again : tie.Need-loop-again Inv-loop μ-loop
 loop-again c = (omega arith, rw (← words-more) (cc))
 
 returns : tie.Need-returns Inv-loop μ-loop
-unfolding opensOf
+unfolding splitOf
 returns c = cc (le-antisymm (c .before .loop .inv .0) (c .loop-test .left))
 
-pub opens-spec : {M : Type 1} → statement M
-opens-spec =
+pub split-spec : {M : Type 1} → statement M
+split-spec =
     tie.close (tie.spec Inv-loop μ-loop loop-holds (λ c κs. search needs) (λ c κs. search needs) (λ c κs. search needs) (λ c. search needs) (λ c. search needs) (λ c. search needs) (λ c. search needs) loop-again returns)

@@ -1,0 +1,16 @@
+-- `restarted`: by what a restart asks. Assumes nothing.
+use borrow.Author.Needs.{needs}
+use Rattle.ways.specs.Ways.{few-ways}
+use Rattle.monitor.proofs.single.restarted.Statement.{statement}
+use Rattle.monitor.proofs.single.restarted.Tie as tie
+
+restarted-requires : tie.Need-restarted-requires
+restarted-requires c κs =
+    let told = c .before .before .before .before .before .before in
+    rw (told .restart-ways-of .ensures) (few-ways (told .before .before .before .pre))
+
+returns : tie.Need-returns
+returns c = rw (c .before .before .before .before .before .before .before .restart-ways-of .ensures) at (c .restarted .ensures)
+
+pub restarted-spec : {M : Type 1} → statement M
+restarted-spec = tie.close (tie.spec (λ c κs. search needs) restarted-requires returns)
