@@ -264,7 +264,7 @@ static u64 agreeing(const uint16_t *label, size_t states, Event e) {
     for (size_t i = 0; i < states; i++) agree |= (u64)(((label[i] ^ e.val) & e.see) == 0) << i;
     return agree;
 }
-// The two ways on: nothing moves, or both sets do.
+// The three ways on: nothing moves; both sets do; and at a restart both as one, and what they reach is split by where the rule holds.
 static void kept(const u64 *live, u64 agree, Monitor *m) {
     for (int v = 0; v < 64; v++) m->keeps.words[v] &= live[v] & agree, m->breaks.words[v] &= live[v] & agree;
     m->seen = 1;
@@ -274,6 +274,12 @@ static void moved(const u64 *next, size_t states, const Ways *ways, const u64 *l
     image(next, states, ways->leave, ways->enter, ways->count, m->keeps.words, live, agree, to.keeps.words);
     image(next, states, ways->leave, ways->enter, ways->count, m->breaks.words, live, agree, to.breaks.words);
     *m = to;
+}
+static void restarted(const u64 *next, size_t states, const Ways *ways, const u64 *holds, const u64 *live, u64 agree, Monitor *m) {
+    u64 both[64], reached[64];
+    for (int v = 0; v < 64; v++) both[v] = m->keeps.words[v] | m->breaks.words[v];
+    image(next, states, ways->leave, ways->enter, ways->count, both, live, agree, reached);
+    for (int v = 0; v < 64; v++) m->keeps.words[v] = reached[v] & holds[v], m->breaks.words[v] = reached[v] & ~holds[v];
 }
 NOINLINE static Answer begin(Plant p, const u64 *fair, const uint16_t *label, const u64 *next, const Rule *r, const u64 *live, Monitor *m) {
     Answer a = {check_table(p, fair, label, next), 0, 0};
@@ -301,15 +307,11 @@ NOINLINE static Answer step(Plant p, const u64 *fair, const uint16_t *label, con
     if (!m->seen) kept(live, agree, m);
     else {
         u64 words[2112];
+        Ways ways;
         truths(r, label, p.states, &s, words);
-        if (e.new) {
-            opened(p.start, words + r->len * 64, live, m);
-            kept(live, agree, m);
-        } else {
-            Ways ways;
-            ways_of(r, &s, words, &ways);
-            moved(next, p.states, &ways, live, agree, m);
-        }
+        ways_of(r, &s, words, &ways);
+        if (e.new) restarted(next, p.states, &ways, words + r->len * 64, live, agree, m);
+        else moved(next, p.states, &ways, live, agree, m);
     }
     return lamp(m);
 }
@@ -326,7 +328,7 @@ static int numbers(FILE *f, Plant *p, u64 *fair, uint16_t *label, u64 *next, Rul
     if (fscanf(f, "%zu", &r->len) != 1) return 0;
     for (size_t i = 0; i < r->len; i++) if (fscanf(f, "%hhu %hhu", &r->nodes[i].op, &r->nodes[i].prop) != 2) return 0;
     if (fscanf(f, "%zu", lines) != 1 || *lines > 3276) return 0;
-    for (size_t i = 0; i < *lines; i++) if (fscanf(f, "%hu %hu", &log[i].see, &log[i].val) != 2) return 0;
+    for (size_t i = 0; i < *lines; i++) if (fscanf(f, "%hu %hu %d", &log[i].see, &log[i].val, &log[i].new) != 3) return 0;
     return 1;
 }
 // What both modes go by.
@@ -535,11 +537,9 @@ static size_t follow(Monitor *m) {
     for (size_t n = 0; n < lines; n++) {
         if (!is_legal(events[n], p.props)) return n;
         u64 agree = agreeing(label, p.states, events[n]);
-        if (m->seen && !events[n].new) moved(next, p.states, &ways, live, agree, m);
-        else {
-            if (m->seen) opened(p.start, words + r.len * 64, live, m);
-            kept(live, agree, m);
-        }
+        if (!m->seen) kept(live, agree, m);
+        else if (events[n].new) restarted(next, p.states, &ways, words + r.len * 64, live, agree, m);
+        else moved(next, p.states, &ways, live, agree, m);
         put("n=");
         put_number(n);
         put_lamp(lamp(m));

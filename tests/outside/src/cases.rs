@@ -151,7 +151,7 @@ fn event_at(dice: &mut Dice, plant: &Plant, s: usize, sight: usize, new: bool) -
     Event { see, val: plant.label[s] & see, new }
 }
 
-/// A log that follows a walk through the plant, with some restarts and, now and then, a sight that does not fit.
+/// A log that follows a walk through the plant, with some restarts and, now and then, a sight that does not fit. At a restart it may jump to the start.
 pub fn log(dice: &mut Dice, plant: &Plant, length: usize) -> Vec<Event> {
     let sight = *dice.pick(&[20, 40, 60, 100]);
     let restarts = *dice.pick(&[0, 0, 10, 30]);
@@ -163,7 +163,7 @@ pub fn log(dice: &mut Dice, plant: &Plant, length: usize) -> Vec<Event> {
     let mut events = Vec::new();
     for _ in 0..length {
         let new = dice.chance(restarts);
-        if new && dice.chance(70) {
+        if new && dice.chance(8) {
             s = begin(dice);
         }
         let mut event = event_at(dice, plant, s, sight, new);
@@ -612,7 +612,7 @@ pub const GIVEN: &[(&str, &str, &str, &str)] = &[
     (W, "p0R!p1", "", "start verdict=true left=1\n"),
     (W, "Xp0", "see=03 val=00 new=0\nsee=03 val=00 new=0\n", "start verdict=inconclusive left=1\nn=0 verdict=inconclusive left=1\nn=1 verdict=false left=1\n"),
     (W, "Fp1", "see=03 val=00 new=0\nsee=03 val=03 new=0\n", "start verdict=inconclusive left=1\nn=0 verdict=inconclusive left=1\nn=1 verdict=out-of-model left=0\n"),
-    (W, "Fp1", "see=03 val=00 new=0\nsee=03 val=03 new=0\nsee=03 val=00 new=1\n", "start verdict=inconclusive left=1\nn=0 verdict=inconclusive left=1\nn=1 verdict=out-of-model left=0\nn=2 verdict=inconclusive left=1\n"),
+    (W, "Fp1", "see=03 val=00 new=0\nsee=03 val=03 new=0\nsee=03 val=00 new=1\n", "start verdict=inconclusive left=1\nn=0 verdict=inconclusive left=1\nn=1 verdict=out-of-model left=0\nn=2 verdict=out-of-model left=0\n"),
     (W_DEAD, "1", "", "start verdict=out-of-model left=0\n"),
     (W, "Fp0", "see=03 val=00 new=0\nsee=00 val=00 new=0\nsee=02 val=02 new=0\n", "start verdict=inconclusive left=1\nn=0 verdict=inconclusive left=1\nn=1 verdict=inconclusive left=2\nn=2 verdict=true left=1\n"),
     (W, "", "", "refused=5 place=0\n"),
@@ -660,14 +660,12 @@ pub fn case(seed: u64, number: usize) -> Case {
     Case { kind, files, given: None }
 }
 
-/// A plant, rule and log of up to so many states, without restarts.
-pub fn unbroken(dice: &mut Dice, states: usize) -> (Plant, String, Vec<Event>) {
+/// A plant of up to so many states, a rule and a log, all of them accepted.
+pub fn accepted(dice: &mut Dice, states: usize) -> (Plant, String, Vec<Event>) {
     let states = dice.from(1, states);
     let length = dice.from(0, 4);
     let parts = dice.from(0, 3);
-    let (plant, rule, mut log) = good(dice, states, parts, length);
-    log.iter_mut().for_each(|e| e.new = false);
-    (plant, rule, log)
+    good(dice, states, parts, length)
 }
 
 impl Files {

@@ -3,9 +3,9 @@
 //! agree with. On tiny plants these are all short lassos, on others thrown ones.
 
 use crate::dice::Dice;
-use crate::log::Event;
+use crate::log::{mark, Event};
 use crate::meaning::{run_fault, values, witness_fault, Lasso};
-use crate::pairs::{run_to, trace, Graph};
+use crate::pairs::{run_to, trace, Graph, Monitor};
 use crate::plant::Plant;
 use crate::rule::Rule;
 
@@ -69,7 +69,10 @@ pub fn check(plant: &Plant, rule: &Rule, events: &[Event], runs: impl FnOnce(&mu
     let mut held: Vec<[std::collections::HashSet<(usize, u64)>; 2]> = Vec::new();
     for (k, monitor) in monitors.iter().enumerate() {
         for (keeps, set) in [(true, &monitor.keeps), (false, &monitor.breaks)] {
-            let sets: Vec<Vec<usize>> = monitors[..=k].iter().map(|m| if keeps { m.keeps.clone() } else { m.breaks.clone() }).collect();
+            // Up to the last restart a run of either kind leads here, and from there on one of this kind.
+            let both = |m: &Monitor| [m.keeps.as_slice(), &m.breaks].concat();
+            let own = |m: &Monitor| if keeps { m.keeps.clone() } else { m.breaks.clone() };
+            let sets: Vec<Vec<usize>> = monitors[..=k].iter().enumerate().map(|(i, m)| if i <= mark(&events[..k]) { both(m) } else { own(m) }).collect();
             for node in set {
                 let (state, valuation) = graph.pair(*node);
                 if let Some(fault) = witness_fault(plant, rule, state, valuation, &graph.lasso(*node).expect("a live node")) {
@@ -91,13 +94,14 @@ pub fn check(plant: &Plant, rule: &Rule, events: &[Event], runs: impl FnOnce(&mu
     let mut missed = None;
     runs(&mut |run| {
         tally.runs += 1;
-        let kind = values(rule, plant, run)[0];
+        let kinds = values(rule, plant, run);
         let parts: Vec<Vec<bool>> = rule.parts().iter().map(|p| values(p, plant, run)).collect();
         for k in 0..=events.len() {
             if k > 0 && !events[k - 1].agrees(plant.label[run.state(k - 1)]) {
                 break;
             }
             let pair = pair_of(&parts, run, k.max(1) - 1);
+            let kind = kinds[run.place(mark(&events[..k]))];
             if !held[k][kind as usize].contains(&pair) {
                 missed = Some(format!("run {:?}, keeps {}, after {} events is at {:?}, which is not held", run, kind, k, pair));
             }
@@ -120,10 +124,12 @@ mod tests {
         let mistakes = [
             Fault::NoFairness, Fault::FairnessOnce, Fault::FinallyPutOff, Fault::GloballyPutOff, Fault::DeadPairsKept, Fault::DeadEndsLive, Fault::MoveBeforeFirst,
             Fault::NoMove, Fault::StartAnywhere, Fault::DecidedSticks, Fault::NextIsNow, Fault::UntilNeedsNoEnd, Fault::ReleaseSwapped, Fault::ReleaseAtOnce,
+            Fault::RestartForgets, Fault::RestartAnywhere, Fault::RestartRevives, Fault::RestartIgnored, Fault::RestartKeepsSides, Fault::RestartSplitsFirst, Fault::RestartAtStart,
+            Fault::RestartNoMove, Fault::RestartFirst,
         ];
         for mistake in mistakes {
             let found = (0..600).any(|k| {
-                let (plant, text, events) = crate::cases::unbroken(&mut Dice::new(5, k), 3);
+                let (plant, text, events) = crate::cases::accepted(&mut Dice::new(5, k), 3);
                 let rule = crate::rule::read(text.as_bytes(), plant.props).unwrap();
                 let look = || faults::with(Some(mistake), || check(&plant, &rule, &events, |visit| short_runs(&plant, 5, visit)).is_err());
                 let found = std::panic::catch_unwind(std::panic::AssertUnwindSafe(look)).unwrap_or(true);

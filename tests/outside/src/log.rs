@@ -43,6 +43,11 @@ pub fn read(text: &[u8], props: usize) -> Result<Vec<Event>, Refusal> {
     Ok(text.chunks(bytes).map(event).collect())
 }
 
+/// The position from which the rule is judged: that of the last restart, or 0.
+pub fn mark(events: &[Event]) -> usize {
+    events.iter().rposition(|e| e.new).unwrap_or(0)
+}
+
 impl Event {
     pub fn text(&self, props: usize) -> String {
         format!("see={:0w$x} val={:0w$x} new={}\n", self.see, self.val, self.new as u8, w = digits(props))

@@ -51,14 +51,14 @@ fn lassos(words: &[String]) -> Result<String, String> {
     for k in 0..count {
         let mut dice = dice::Dice::new(seed ^ 0x5a5a, k as u64);
         let tiny = k % 4 != 0;
-        let (plant, text, events) = cases::unbroken(&mut dice, if tiny { 3 } else { 14 });
-        let rule = rule::read(text.as_bytes(), plant.props).map_err(|r| format!("unbroken case {}: {:?}", k, r))?;
+        let (plant, text, events) = cases::accepted(&mut dice, if tiny { 3 } else { 14 });
+        let rule = rule::read(text.as_bytes(), plant.props).map_err(|r| format!("case {}: {:?}", k, r))?;
         let one = if tiny {
             lassos::check(&plant, &rule, &events, |visit| lassos::short_runs(&plant, 7, visit))
         } else {
             lassos::check(&plant, &rule, &events, |visit| lassos::thrown_runs(&plant, &mut dice, 200, visit))
         };
-        let one = one.map_err(|why| format!("unbroken case {}, rule {}: {}", k, rule.print(), why))?;
+        let one = one.map_err(|why| format!("case {}, rule {}: {}", k, rule.print(), why))?;
         tally.pairs += one.pairs;
         tally.runs += one.runs;
     }

@@ -1,6 +1,6 @@
 //! What a run is and when a rule holds on it, word by word after the paper; and the check of runs and witnesses by it.
 
-use crate::log::Event;
+use crate::log::{mark, Event};
 use crate::plant::Plant;
 use crate::rule::Rule;
 
@@ -76,7 +76,7 @@ pub fn values(rule: &Rule, plant: &Plant, lasso: &Lasso) -> Vec<bool> {
     }
 }
 
-/// What is wrong with a run that is said to agree with the events and to keep (or break) the rule, if anything.
+/// What is wrong with a run that is said to agree with the events and, from the last restart on, to keep (or break) the rule, if anything.
 pub fn run_fault(plant: &Plant, rule: &Rule, events: &[Event], run: &Lasso, keeps: bool) -> Option<String> {
     let first = run.stem.first().or_else(|| run.ring.first());
     if !first.map_or(false, |s| *s < plant.states && plant.starts(*s)) {
@@ -88,7 +88,7 @@ pub fn run_fault(plant: &Plant, rule: &Rule, events: &[Event], run: &Lasso, keep
     if let Some(i) = (0..events.len()).find(|i| !events[*i].agrees(plant.label[run.state(*i)])) {
         return Some(format!("event {} does not agree", i));
     }
-    if values(rule, plant, run)[0] != keeps {
+    if values(rule, plant, run)[run.place(mark(events))] != keeps {
         return Some(String::from("the rule has the other value"));
     }
     None
@@ -200,5 +200,9 @@ mod tests {
         assert!(run_fault(&plant_w(), &rule("Fp1"), &events, &good, false).is_some());
         assert!(run_fault(&plant_w(), &rule("Fp1"), &events, &lasso(&[0, 0, 1], &[2, 0, 1]), true).is_some());
         assert!(run_fault(&plant_w(), &rule("Fp1"), &[], &lasso(&[], &[1, 2, 0]), true).is_some());
+        let warm = [see(0), see(1), Event { new: true, ..see(2) }];
+        assert_eq!(run_fault(&plant_w(), &rule("Xp0"), &warm, &good, false), None);
+        assert_eq!(run_fault(&plant_w(), &rule("Xp0"), &events, &good, true), None);
+        assert!(run_fault(&plant_w(), &rule("p1"), &warm, &lasso(&[], &[2, 0, 1]), true).is_some());
     }
 }

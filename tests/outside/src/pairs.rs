@@ -297,17 +297,15 @@ impl Monitor {
     }
 
     pub fn step(&self, graph: &Graph, event: Event) -> Monitor {
-        let restart = event.new && self.seen && !faults::is(Fault::RestartIgnored);
-        if restart && faults::is(Fault::RestartKeepsPast) {
-            let both: Vec<usize> = self.keeps.iter().chain(&self.breaks).cloned().collect();
-            let both = Self::agreeing(Self::moved(&both, graph), graph, event);
-            let (keeps, breaks) = both.into_iter().partition(|n| graph.holds[*n]);
-            return Monitor { seen: true, keeps, breaks };
-        }
-        if restart && !(faults::is(Fault::OutOfModelSticks) && self.verdict() == Verdict::OutOfModel) {
+        let restart = event.new && (self.seen || faults::is(Fault::RestartFirst)) && !faults::is(Fault::RestartIgnored);
+        let revives = faults::is(Fault::RestartRevives) && self.verdict() == Verdict::OutOfModel;
+        if restart && (faults::is(Fault::RestartForgets) || faults::is(Fault::RestartAnywhere) || revives) {
             let open = if faults::is(Fault::RestartAnywhere) { faults::with(Some(Fault::StartAnywhere), || Monitor::open(graph)) } else { Monitor::open(graph) };
             let keeps = Self::agreeing(open.keeps, graph, event);
             return Monitor { seen: true, keeps, breaks: Self::agreeing(open.breaks, graph, event) };
+        }
+        if restart {
+            return self.restarted(graph, event);
         }
         let first = !self.seen && !faults::is(Fault::MoveBeforeFirst) || faults::is(Fault::NoMove);
         let go = |set: &Vec<usize>| if first { set.clone() } else { Self::moved(set, graph) };
@@ -317,6 +315,28 @@ impl Monitor {
             return self.clone();
         }
         after
+    }
+
+    /// Both sets move as one, and what they reach is split by the rule's value there.
+    fn restarted(&self, graph: &Graph, event: Event) -> Monitor {
+        let go = |set: &[usize]| {
+            let moved = if faults::is(Fault::RestartNoMove) { set.to_vec() } else { Self::moved(set, graph) };
+            let at_start = |n: &usize| graph.plant.starts(n / graph.width) || !faults::is(Fault::RestartAtStart);
+            Self::agreeing(moved.into_iter().filter(at_start).collect(), graph, event)
+        };
+        if faults::is(Fault::RestartKeepsSides) {
+            let keeps = go(&self.keeps).into_iter().filter(|n| graph.holds[*n]).collect();
+            return Monitor { seen: true, keeps, breaks: go(&self.breaks).into_iter().filter(|n| !graph.holds[*n]).collect() };
+        }
+        let mut both = [self.keeps.as_slice(), &self.breaks].concat();
+        both.sort();
+        both.dedup();
+        if faults::is(Fault::RestartSplitsFirst) {
+            let (keeps, breaks): (Vec<usize>, Vec<usize>) = both.into_iter().partition(|n| graph.holds[*n]);
+            return Monitor { seen: true, keeps: go(&keeps), breaks: go(&breaks) };
+        }
+        let (keeps, breaks) = go(&both).into_iter().partition(|n| graph.holds[*n]);
+        Monitor { seen: true, keeps, breaks }
     }
 
     pub fn verdict(&self) -> Verdict {
@@ -352,7 +372,7 @@ impl Monitor {
     }
 }
 
-/// The monitors of a log without restarts, the opening first.
+/// The monitors of a log, the opening first.
 pub fn trace(graph: &Graph, events: &[Event]) -> Vec<Monitor> {
     let mut trace = vec![Monitor::open(graph)];
     for event in events {
@@ -362,7 +382,7 @@ pub fn trace(graph: &Graph, events: &[Event]) -> Vec<Monitor> {
     trace
 }
 
-/// A run that is at `node` now, given the trace of one kind's sets: the walk that led there, then the node's lasso.
+/// A run that is at `node` now, given the trace of the sets it went through: the walk that led there, then the node's lasso.
 pub fn run_to(graph: &Graph, sets: &[Vec<usize>], node: usize) -> Lasso {
     let mut walk = vec![node];
     // The opening and the first event are the same position.

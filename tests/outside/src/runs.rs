@@ -4,7 +4,7 @@
 use std::collections::HashSet;
 
 use crate::faults::{self, Fault};
-use crate::log::Event;
+use crate::log::{mark, Event};
 use crate::meaning::{run_fault, values, Lasso};
 use crate::pairs::{Graph, Monitor};
 use crate::plant::Plant;
@@ -15,7 +15,6 @@ use crate::watch::{self, Files};
 pub struct Past {
     pub plant: Plant,
     pub rule: Rule,
-    /// The events since the last restart.
     pub events: Vec<Event>,
     /// Is there a run that keeps the rule, and one that breaks it? By the lamp.
     kinds: [bool; 2],
@@ -38,8 +37,7 @@ pub fn past(files: &Files) -> Result<Past, String> {
         let plant = files.read_plant()?;
         let rule = files.read_rule(plant.props)?;
         let events = files.read_log(plant.props)?;
-        let from = events.iter().rposition(|e| e.new).unwrap_or(0);
-        Ok(Past { plant, rule, events: events[from..].to_vec(), kinds })
+        Ok(Past { plant, rule, events, kinds })
     };
     Ok(read().expect("what the lamps were shown for"))
 }
@@ -137,7 +135,7 @@ fn values_at_first(parts: &[Part], plant: &Plant, lasso: &Lasso) -> u64 {
 
 impl Past {
     /// Does some walk that agrees with the events lead to the lasso, so that both are a run of the kind? By sets: in which state, and with which
-    /// values of the rule's parts, a run may be that goes on so; from now back to position 0.
+    /// values of the rule's parts, a run may be that goes on so; from now back to position 0, and at the last restart only with the kind's value.
     fn is_joined(&self, lasso: &Lasso, keeps: bool) -> bool {
         let mut parts = Vec::new();
         all_parts(&self.rule, &mut parts);
@@ -147,14 +145,17 @@ impl Past {
         if agrees(now, lasso.state(0)) {
             set.insert((lasso.state(0), values_at_first(&parts, &self.plant, lasso)));
         }
+        let from = mark(&self.events);
+        let of_kind = |i: usize, v: u64| i != from || (v & 1 == 1) == keeps;
+        set.retain(|(_, v)| of_kind(now, *v));
         for i in (0..now).rev() {
             let before = |(t, after): &(usize, u64)| -> Vec<(usize, u64)> {
                 let from = (0..self.plant.states).filter(|s| self.plant.moves(*s, *t) && agrees(i, *s));
                 from.map(|s| (s, values_before(&parts, &self.plant, s, *after))).collect()
             };
-            set = set.iter().flat_map(before).collect();
+            set = set.iter().flat_map(before).filter(|(_, v)| of_kind(i, *v)).collect();
         }
-        set.iter().any(|(s, v)| self.plant.starts(*s) && (v & 1 == 1) == keeps)
+        set.iter().any(|(s, _)| self.plant.starts(*s))
     }
 
     /// The same by trying each walk, and each whole run by its definition, if there are at most so many walks.
@@ -293,11 +294,7 @@ pub fn output(files: &Files) -> String {
         Err(refusal) => return refusal,
         Ok(past) => past,
     };
-    let mut events = past.events.clone();
-    if faults::is(Fault::RestartIgnored) || faults::is(Fault::RestartKeepsPast) || faults::is(Fault::OutOfModelSticks) || faults::is(Fault::RestartAnywhere) {
-        events = files.read_log(past.plant.props).unwrap();
-    }
-    let mut runs = own_lines(&past.plant, &past.rule, &events);
+    let mut runs = own_lines(&past.plant, &past.rule, &past.events);
     if faults::is(Fault::RunKindLeftOut) && runs[0].is_some() {
         runs[1] = None;
     }
@@ -334,7 +331,7 @@ mod tests {
     fn long_lassos_have_the_same_values() {
         for k in 0..300 {
             let mut dice = Dice::new(9, k);
-            let (plant, text, _) = cases::unbroken(&mut dice, 5);
+            let (plant, text, _) = cases::accepted(&mut dice, 5);
             let rule = rule::read(text.as_bytes(), plant.props).unwrap();
             let mut parts = Vec::new();
             all_parts(&rule, &mut parts);
@@ -351,7 +348,7 @@ mod tests {
         let mut told = [0, 0];
         for k in 0..400 {
             let mut dice = Dice::new(11, k);
-            let (plant, text, events) = cases::unbroken(&mut dice, 4);
+            let (plant, text, events) = cases::accepted(&mut dice, 4);
             let rule = rule::read(text.as_bytes(), plant.props).unwrap();
             let past = Past { plant: plant.clone(), rule, events, kinds: [true, true] };
             crate::lassos::thrown_runs(&plant, &mut dice, 12, &mut |lasso| {
@@ -387,6 +384,9 @@ mod tests {
         says("Fp1", second, "breaks stem= loop=1\nkeeps stem=1 loop=2\n", "not of its kind");
         says("Fp1", second, "keeps stem=1 loop=02\nbreaks stem= loop=1\n", "form");
         says("Fp1", second, "keeps stem=1,2 loop=\nbreaks stem= loop=1\n", "empty");
+        let warm = "see=03 val=00 new=0\nsee=03 val=01 new=0\nsee=01 val=00 new=1\n";
+        says("Xp0", warm, "keeps refused=13 place=0\nbreaks stem=2 loop=0\n", "right");
+        says("Xp0", warm, "keeps refused=13 place=0\nbreaks stem= loop=0\n", "no walk");
         says("1", "", "keeps stem= loop=0\nbreaks stem= loop=0\n", "there is no run");
         says("1", "", "keeps stem= loop=0\nbreaks refused=13 place=0\n", "right");
         says("1", "see=04 val=00 new=0\n", "refused=10 place=0\n", "right");
