@@ -32,8 +32,8 @@ def fresh(count, seed):
     return cases
 
 
-def folder(room, words):
-    """The folder of a case, which is drawn anew."""
+def folder(room, words, more=()):
+    """The folder of a case, which is drawn anew, by more words than it is named by."""
     path = os.path.join(room, '-'.join(words))
-    subprocess.run(['python3', os.path.join(HERE, 'draw_case.py'), path] + words, check=True)
+    subprocess.run(['python3', os.path.join(HERE, 'draw_case.py'), path] + words + list(more), check=True)
     return path

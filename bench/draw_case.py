@@ -12,6 +12,7 @@ operators=XFGUR  the temporal operators that are drawn
 props=8          how many propositions there are; over 8 labels and events have four digits
 labels=drawn     or `rare`: each proposition at one drawn state alone
 lines=100        how many lines the log has
+new=0            or 1: each event is a restart
 rule=drawn       or `again`, G of Fp0 and .. and Fp4; `nested`, F(p0&F(p1&..Fp5)); `untils`, (..((p0Up1)Up2)..Up6); `ahead`, XXXXXXp0
 
 The folder gets plant.txt, rule.txt and log.txt (lines along a run of the plant), and twin.txt, the same for the C twin: numbers alone,
@@ -22,13 +23,13 @@ import random
 import sys
 
 folder, seed = sys.argv[1], int(sys.argv[2])
-given = {'props': '8', 'moves': '2', 'fair': '16', 'seen': '0', 'operators': 'XFGUR', 'labels': 'drawn', 'lines': '100', 'rule': 'drawn'}
+given = {'props': '8', 'moves': '2', 'fair': '16', 'seen': '0', 'operators': 'XFGUR', 'labels': 'drawn', 'lines': '100', 'new': '0', 'rule': 'drawn'}
 for word in sys.argv[3:]:
     key, value = word.split('=')
     if key not in given:
         sys.exit('draw_case: no key ' + key)
     given[key] = value
-operators, seen = given['operators'], int(given['seen'])
+operators, seen, new = given['operators'], int(given['seen']), int(given['new'])
 draw = random.Random(seed)
 STATES, PROPS, FAIR, PARTS, NODES, LINES = 64, int(given['props']), 4, 6, 32, int(given['lines'])
 DIGITS = 4 if PROPS > 8 else 2
@@ -145,7 +146,7 @@ here = draw.randrange(STATES)
 start |= 1 << here
 events = []
 for see in sees:
-    events.append((see, labels[here] & see))
+    events.append((see, labels[here] & see, new))
     here = draw.choice([s for s in range(STATES) if nexts[here] >> s & 1])
 
 os.makedirs(folder, exist_ok=True)
@@ -160,8 +161,8 @@ write('plant.txt', ['props=%d' % PROPS, 'states=%d' % STATES, 'start=%016x' % st
       + ['j%d=%016x' % pair for pair in enumerate(fairs)]
       + ['label%d=%0*x\nnext%d=%016x' % (s, DIGITS, labels[s], s, nexts[s]) for s in range(STATES)])
 write('rule.txt', [text(rule)], '')
-write('log.txt', ['see=%0*x val=%0*x new=0' % (DIGITS, see, DIGITS, val) for see, val in events])
+write('log.txt', ['see=%0*x val=%0*x new=%d' % (DIGITS, see, DIGITS, val, new) for see, val, new in events])
 write('twin.txt', ['%d %d %d %d' % (PROPS, STATES, start, FAIR)] + ['%d' % fair for fair in fairs]
       + ['%d %d' % pair for pair in zip(labels, nexts)]
       + ['%d' % len(nodes(rule))] + ['%d %d' % node for node in nodes(rule)]
-      + ['%d' % LINES] + ['%d %d' % event for event in events])
+      + ['%d' % LINES] + ['%d %d %d' % event for event in events])

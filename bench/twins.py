@@ -1,4 +1,4 @@
-"""What the proved programs take beside the C twin, by time or by instructions: a prepare and a step, and the program on whole logs.
+"""What the proved programs take beside the C twin, by time or by instructions: a prepare, a step and a restart, and the program on whole logs.
 
 `programs` gives for each name the words that start it: `proved`, `twin`, and `before` where an earlier state is asked for. `measure(words,
 folder)` runs one in the folder, and gives what the run took and what it wrote.
@@ -67,19 +67,30 @@ def table(drawn, unit, programs, columns, cost):
 
 
 def steps(drawn, room, unit, programs, measure, rounds, turns):
-    """What a prepare and a step take: turns gives how often each is done, a step by logs of 100 lines."""
-    many = {'prepare': turns.get('prepares'), 'step': turns['logs'] * 100}
+    """What a prepare, a step and a restart take: turns gives how often each is done, a step and a restart by logs of 100 lines. Beside an earlier
+    state, which may restart in another way, no restart is asked for."""
+    many = {'prepare': turns.get('prepares'), 'step': turns['logs'] * 100, 'restart': 'before' not in programs and turns['logs'] * 100}
     columns = [column for column in many if many[column]]
+    ratios = []
 
     def cost(words):
         folder = cases.folder(room, words)
-        variants = {'none': lambda: write_turns(folder), 'step': lambda: write_turns(folder, logs=turns['logs'])}
-        if 'prepare' in columns:
-            variants['prepare'] = lambda: write_turns(folder, prepares=turns['prepares'])
+
+        def lay(more=(), **turns):
+            cases.folder(room, words, more)
+            write_turns(folder, **turns)
+        asked = {'step': lambda: lay(logs=turns['logs']), 'restart': lambda: lay(['new=1'], logs=turns['logs']),
+                 'prepare': lambda: lay(prepares=turns.get('prepares'))}
+        variants = dict({column: asked[column] for column in columns}, none=lay)
         # of the digests that the proved program writes, the twin has the first two
         took, _ = least(folder, programs, variants, measure, rounds, lambda said: said.split()[:2])
-        return {(column, name): (took[column, name] - took['none', name]) / many[column] for column in columns for name in programs}
+        costs = {(column, name): (took[column, name] - took['none', name]) / many[column] for column in columns for name in programs}
+        if 'restart' in columns:
+            ratios.append(costs['restart', 'proved'] / costs['step', 'proved'])
+        return costs
     table(drawn, unit, programs, columns, cost)
+    if ratios:
+        print('restart to step, proved: by case from %.3f to %.3f, median %.3f\n' % (min(ratios), max(ratios), statistics.median(ratios)))
 
 
 def log_costs(room, words, programs, measure, rounds, lengths):
