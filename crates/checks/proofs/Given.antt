@@ -9,13 +9,14 @@ use Rattle.answers.specs.declared.Outcome.the-variants.{Accepted}
 use Rattle.plant.specs.declared.Plant.{Plant}
 use Rattle.plant.specs.Table.{plantOf}
 use Rattle.syntax.specs.declared.Rule.{Rule}
+use Rattle.syntax.specs.Value.{formulaOf}
 use Rattle.shape.specs.Shape.{partsIn}
 use Rattle.truth.specs.Ready.{Ready}
 use Rattle.truth.specs.Tables.{tablesOf}
 use Rattle.truth.specs.Right.{RightTables}
 use Rattle.truth_laws.specs.TablesRight.{tables-ready, tables-right}
-use Rattle.checks.specs.Checks.{formulaOf, inputOutcome}
-use Rattle.checks.proofs.Input.{Input, input-accepted}
+use Rattle.checks.specs.Checks.{inputOutcome}
+use Rattle.checks.specs.Input.{Input, input-accepted}
 
 -- the checks accepted
 pub accepted : (p : Plant) (fair label next : List ℕ) (rule : Rule) → length (rule .nodes) ≡ 32

@@ -1,32 +1,18 @@
 -- What the calls that take a rule value answer before they do anything: 01's checks 1, 2 and 9, one after the other.
 use Prim.Native.Nat.{ℕ}
-use mathlib.Core.Bool.{Bool, true, false}
-use mathlib.Core.List.{List, [], _∷_}
+use mathlib.Core.Bool.{Bool}
+use mathlib.Core.List.{List}
 use lib.Dec.{eqb, ltb}
 use lib.ListN.{getD}
-use Rattle.meaning.specs.Formula.{Formula, never}
 use Rattle.words.specs.Word.{withoutOf, onlyOf}
 use Rattle.words.specs.Below.{unionBelow}
-use Rattle.answers.specs.declared.Kind.{Kind}
 use Rattle.answers.specs.declared.Kind.the-variants.{Value}
 use Rattle.answers.specs.declared.Outcome.{Outcome}
-use Rattle.answers.specs.declared.Outcome.the-variants.{Accepted, Refused}
+use Rattle.answers.specs.Chain.{andThen, unless}
 use Rattle.plant.specs.declared.Plant.{Plant}
-use Rattle.plant.specs.Table.{refusedAs, tableOutcome}
+use Rattle.plant.specs.Table.{tableOutcome}
 use Rattle.syntax.specs.declared.Rule.{Rule}
-use Rattle.syntax.specs.Postfix.{decode}
-use Rattle.syntax.specs.Value.{held}
 use Rattle.rule.specs.Valid.{validOf}
-
--- one check and then another: the first refusal counts
-abbrev pub andThen : Outcome → Outcome → Outcome
-andThen Accepted next = next
-andThen (Refused r) next = Refused r
-
--- a check by a test: refused at place 0 unless it holds
-abbrev pub unless : Bool → Kind → Outcome
-unless true k = Accepted
-unless false k = refusedAs k
 
 -- the table (1, 2), and then the rule's value (9)
 unfoldable pub inputOutcome : Plant → List ℕ → List ℕ → List ℕ → Rule → Outcome
@@ -39,12 +25,3 @@ strayAt words states count v = withoutOf (getD words v 0) (onlyOf (ltb v count) 
 -- no word has such a member: check 9 of a set of pairs
 unfoldable pub pairsFit : List ℕ → ℕ → ℕ → Bool
 pairsFit words states count = eqb (unionBelow 64 (strayAt words states count)) 0
-
--- the rule on top of a stack
-abbrev pub topOf : List Formula → Formula
-topOf [] = never
-topOf (f ∷ fs) = f
-
--- the rule that a value's nodes are
-unfoldable pub formulaOf : Rule → Formula
-formulaOf r = topOf (decode (held r) [])

@@ -1,4 +1,4 @@
--- What the checks say: accepted exactly if all hold, refused by the first that does not.
+-- What the check of a set of pairs says: each is of the table's states and the rule's valuations.
 use Prim.Native.Nat.{ℕ, _-_, _^_, _≤_, _<_}
 use native.Mathlib.Omega.{arith}
 use mathlib.Core.Path.{_≡_, refl, sym, ap, _∙_}
@@ -22,56 +22,7 @@ use Rattle.words.specs.Lists.{entry-inside}
 use Rattle.pairs.specs.Sets.{Words, inside, joinOf, length-join, inside-join}
 use Rattle.model.specs.Sets.{PairSet}
 use Rattle.model.specs.Checks.{pairsOk, pairs-says}
-use Rattle.answers.specs.declared.Kind.{Kind}
-use Rattle.answers.specs.declared.Refusal.{Refusal}
-use Rattle.answers.specs.declared.Outcome.{Outcome}
-use Rattle.answers.specs.declared.Outcome.the-variants.{Accepted, Refused}
-use Rattle.answers.specs.Paper.{refusedAt}
-use Rattle.plant.specs.Table.{refusedAs}
-use Rattle.checks.specs.Checks.{andThen, unless, strayAt, pairsFit}
-
--- ---- a chain of checks
-
--- the first check refuses, and so does the chain; it accepts, and the rest decides
-pub first-refuses : {o a : Outcome} {r : Refusal} (b : Outcome) → o ≡ a → o ≡ Refused r → Refused r ≡ andThen a b
-first-refuses b e f = ap (λ x. andThen x b) (sym f ∙ e)
-
-pub first-passes : {o a : Outcome} (b : Outcome) → o ≡ a → o ≡ Accepted → b ≡ andThen a b
-first-passes b e f = ap (λ x. andThen x b) (sym f ∙ e)
-
--- a test that holds accepts, one that fails refuses
-pub test-passes : {t b : Bool} (k : Kind) → t ≡ true → t ≡ b → Accepted ≡ unless b k
-test-passes k h e = ap (λ x. unless x k) (sym h ∙ e)
-
-pub test-fails : {t b : Bool} {r : Refusal} (k : Kind) → t ≡ false → t ≡ b → r ≡ refusedAt k 0 → Refused r ≡ unless b k
-test-fails k h e place = ap Refused place ∙ ap (λ x. unless x k) (sym h ∙ e)
-
-abbrev accepts : Outcome → Bool
-accepts Accepted = true
-accepts (Refused r) = false
-
-refused-none : {A : Type 0} {r : Refusal} → Refused r ≡ Accepted → A
-refused-none e = absurd (false≢true (ap accepts e))
-
--- accepted exactly if all accept
-pub chain-accepts : (a b : Outcome) → (andThen a b ≡ Accepted) ↔ ((a ≡ Accepted) × (b ≡ Accepted))
-chain-accepts Accepted b = (λ e. (refl, e), λ h. h .1)
-chain-accepts (Refused r) b = (refused-none, λ h. refused-none (h .0))
-
--- refused exactly by the first that does not
-pub chain-refuses : (a b : Outcome) (r : Refusal) → (andThen a b ≡ Refused r) ↔ ((a ≡ Refused r) ⊎ ((a ≡ Accepted) × (b ≡ Refused r)))
-chain-refuses Accepted b r = (λ e. inr (refl, e), ⊎-elim (λ e. refused-none (sym e)) (λ h. h .1))
-chain-refuses (Refused s) b r = (inl, ⊎-elim (λ e. e) (λ h. refused-none (h .0)))
-
-pub unless-accepts : (t : Bool) (k : Kind) → (unless t k ≡ Accepted) ↔ So t
-unless-accepts true k = (λ e. refl, λ h. refl)
-unless-accepts false k = (refused-none, λ h. absurd (false≢true h))
-
-pub unless-refuses : (t : Bool) (k : Kind) → (unless t k ≡ refusedAs k) ↔ (t ≡ false)
-unless-refuses true k = (λ e. refused-none (sym e), λ h. absurd (false≢true (sym h)))
-unless-refuses false k = (λ e. refl, λ h. refl)
-
--- ---- sets of pairs
+use Rattle.checks.specs.Checks.{strayAt, pairsFit}
 
 member : (a c : Bool) → So a → (a && not c) ≡ false → So c
 member true true h e = refl

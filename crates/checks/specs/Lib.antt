@@ -1,2 +1,3 @@
 pub mod Checks
 pub mod Exactly
+pub mod Input

@@ -19,7 +19,7 @@ use Rattle.log.specs.declared.Event.{Event}
 use Rattle.log.specs.Legal.{legalOf}
 use Rattle.text.specs.Number.{widthOf}
 use Rattle.log.specs.Read.{eventAt, wholeLines}
-use Rattle.checks.proofs.Input.{Input, input-accepted}
+use Rattle.checks.specs.Input.{Input, input-accepted}
 use Rattle.checks.proofs.Given.{right, ready}
 use Rattle.truth.specs.Ready.{Ready}
 use Rattle.ways.specs.declared.Ways.{Ways}

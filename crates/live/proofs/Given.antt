@@ -13,11 +13,12 @@ use Rattle.answers.specs.declared.Outcome.the-variants.{Accepted, Refused}
 use Rattle.plant.specs.declared.Plant.{Plant}
 use Rattle.plant.specs.Table.{plantOf}
 use Rattle.syntax.specs.declared.Rule.{Rule}
+use Rattle.syntax.specs.Value.{formulaOf}
 use Rattle.truth.specs.Ready.{Ready}
 use Rattle.truth.specs.Tables.{tablesOf}
 use Rattle.ways.specs.Ways.{waysOf}
-use Rattle.checks.specs.Checks.{formulaOf, inputOutcome}
-use Rattle.checks.proofs.Input.{Input}
+use Rattle.checks.specs.Checks.{inputOutcome}
+use Rattle.checks.specs.Input.{Input}
 use Rattle.checks.proofs.Given.{accepted, right, ready}
 use Rattle.live.specs.declared.Prepared.{Prepared}
 use Rattle.live.specs.Prepare.{preparedAs, preparedOf, liveOf}

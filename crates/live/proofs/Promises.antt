@@ -15,8 +15,9 @@ use Rattle.answers.specs.declared.Outcome.the-variants.{Accepted, Refused}
 use Rattle.plant.specs.declared.Plant.{Plant}
 use Rattle.plant.specs.Table.{plantOf}
 use Rattle.syntax.specs.declared.Rule.{Rule}
-use Rattle.checks.specs.Checks.{formulaOf, inputOutcome}
-use Rattle.checks.proofs.Input.{Input, input-accepted}
+use Rattle.syntax.specs.Value.{formulaOf}
+use Rattle.checks.specs.Checks.{inputOutcome}
+use Rattle.checks.specs.Input.{Input, input-accepted}
 use Rattle.live.specs.Prepare.{preparedAs, preparedOf}
 
 module _ (p : Plant) (fair label next : List ℕ) (rule : Rule) where

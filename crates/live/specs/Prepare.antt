@@ -9,9 +9,10 @@ use Rattle.answers.specs.declared.Outcome.the-variants.{Accepted, Refused}
 use Rattle.plant.specs.declared.Plant.{Plant}
 use Rattle.plant.specs.Table.{plantOf}
 use Rattle.syntax.specs.declared.Rule.{Rule}
+use Rattle.syntax.specs.Value.{formulaOf}
 use Rattle.ways.specs.declared.Ways.{Ways}
 use Rattle.ways.specs.Ways.{waysOf}
-use Rattle.checks.specs.Checks.{formulaOf, inputOutcome}
+use Rattle.checks.specs.Checks.{inputOutcome}
 use Rattle.live.specs.declared.Prepared.{Prepared}
 
 -- with a refusal the empty set

@@ -2,11 +2,12 @@
 use Prim.Native.Nat.{ℕ, _<_}
 use mathlib.Core.Path.{_≡_, refl, sym, subst, ap, _∙_}
 use mathlib.Core.Logic.{_↔_}
-use mathlib.Core.Bool.{Bool, true, false, false≢true}
+use mathlib.Core.Bool.{false≢true}
 use mathlib.Core.List.{List, [], _∷_, _++_}
 use lib.ListN.{length, getD}
 use Rattle.answers.specs.declared.Outcome.{Outcome}
-use Rattle.answers.specs.declared.Outcome.the-variants.{Accepted, Refused}
+use Rattle.answers.specs.declared.Outcome.the-variants.{Accepted}
+use Rattle.answers.specs.Chain.{isAccepted, placeOf}
 use Rattle.words.specs.Word.{digit}
 use Rattle.text.specs.Slot.{Slot, word}
 use Rattle.text.specs.Number.{hexSlots, countSlots}
@@ -105,14 +106,6 @@ text-read w es ok = small-read w es (logText w es) ok (written-small (logSlots w
 
 abbrev outcomeOf : LogRead → Outcome
 outcomeOf r = r .outcome
-
-abbrev isAccepted : Outcome → Bool
-isAccepted Accepted = true
-isAccepted (Refused r) = false
-
-abbrev placeOf : Outcome → ℕ
-placeOf Accepted = 0
-placeOf (Refused r) = r .place
 
 -- an accepted text is, its digits made small, the text of a log, and these are its lines and the events read
 pub accepted-text :

@@ -18,15 +18,16 @@ use Rattle.answers.specs.declared.Answer.{Answer}
 use Rattle.answers.specs.declared.Answer.the-variants as Answers
 use Rattle.answers.specs.declared.Outcome.{Outcome}
 use Rattle.answers.specs.declared.Outcome.the-variants.{Accepted, Refused}
+use Rattle.answers.specs.Chain.{andThen, unless, chain-accepts, unless-accepts}
 use Rattle.plant.specs.declared.Plant.{Plant}
 use Rattle.syntax.specs.declared.Rule.{Rule}
 use Rattle.log.specs.declared.Event.{Event}
 use Rattle.log.specs.Legal.{seenOf, legalOf, legal-exactly}
 use Rattle.shape.specs.Shape.{partsIn}
 use Rattle.ways.specs.Ways.{waysOf}
-use Rattle.checks.specs.Checks.{andThen, unless, inputOutcome, pairsFit}
-use Rattle.checks.specs.Exactly.{fit-is, join-says, chain-accepts, unless-accepts}
-use Rattle.checks.proofs.Input.{Input}
+use Rattle.checks.specs.Checks.{inputOutcome, pairsFit}
+use Rattle.checks.specs.Exactly.{fit-is, join-says}
+use Rattle.checks.specs.Input.{Input}
 use Rattle.checks.proofs.Given.{accepted, right, parts-is}
 use Rattle.advance.specs.declared.Monitor.{Monitor}
 use Rattle.advance.specs.Held.{modelOf, monitorOf, eventOf}

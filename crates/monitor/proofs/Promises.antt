@@ -24,17 +24,17 @@ use Rattle.answers.specs.declared.Outcome.{Outcome}
 use Rattle.answers.specs.declared.Outcome.the-variants.{Accepted, Refused}
 use Rattle.answers.specs.Paper.{verdict, paper, refusedAt}
 use Rattle.answers.proofs.One.{verdict-number}
+use Rattle.answers.specs.Chain.{refusedAs, differ, andThen, unless, chain-accepts, chain-refuses, unless-accepts, unless-refuses}
 use Rattle.plant.specs.declared.Plant.{Plant}
-use Rattle.plant.specs.Table.{refusedAs, tableOutcome}
-use Rattle.plant.specs.Check.{differ, accepted-exactly, one-of-three}
+use Rattle.plant.specs.Table.{tableOutcome}
+use Rattle.plant.specs.Check.{accepted-exactly, one-of-three}
 use Rattle.syntax.specs.declared.Rule.{Rule}
 use Rattle.rule.specs.Valid.{validOf, RuleValue}
 use Rattle.rule.proofs.Values.{valid-exactly}
 use Rattle.log.specs.declared.Event.{Event}
 use Rattle.log.specs.Legal.{seenOf}
-use Rattle.checks.specs.Checks.{andThen, unless, inputOutcome}
-use Rattle.checks.specs.Exactly.{chain-accepts, chain-refuses, unless-accepts, unless-refuses}
-use Rattle.checks.proofs.Input.{Input, given, input-accepted, value-refused}
+use Rattle.checks.specs.Checks.{inputOutcome}
+use Rattle.checks.specs.Input.{Input, given, input-accepted, value-refused}
 use Rattle.advance.specs.declared.Monitor.{Monitor}
 use Rattle.advance.specs.Held.{modelOf, eventOf}
 use Rattle.monitor.specs.Calls.{none, lampOf, watched, table, formula, checkedOf, openOf, stepChecked, stepOf}

@@ -15,12 +15,14 @@ use Rattle.answers.specs.declared.Answer.the-variants as Answers
 use Rattle.answers.specs.declared.Outcome.{Outcome}
 use Rattle.answers.specs.declared.Outcome.the-variants.{Accepted, Refused}
 use Rattle.answers.specs.Paper.{shown}
+use Rattle.answers.specs.Chain.{andThen, unless}
 use Rattle.plant.specs.declared.Plant.{Plant}
 use Rattle.plant.specs.Table.{plantOf}
 use Rattle.syntax.specs.declared.Rule.{Rule}
+use Rattle.syntax.specs.Value.{formulaOf}
 use Rattle.log.specs.declared.Event.{Event}
 use Rattle.log.specs.Legal.{seenOf}
-use Rattle.checks.specs.Checks.{andThen, unless, formulaOf, inputOutcome}
+use Rattle.checks.specs.Checks.{inputOutcome}
 use Rattle.advance.specs.declared.Monitor.{Monitor}
 use Rattle.advance.specs.Held.{modelOf, monitorOf, eventOf}
 use Rattle.monitor.specs.declared.Watched.{Watched}

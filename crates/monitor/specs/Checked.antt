@@ -7,11 +7,13 @@ use Rattle.pairs.specs.declared.Pairs.{Pairs}
 use Rattle.pairs.specs.Sets.{joinOf}
 use Rattle.answers.specs.declared.Kind.the-variants.{Event as EventKind}
 use Rattle.answers.specs.declared.Outcome.{Outcome}
+use Rattle.answers.specs.Chain.{andThen, unless}
 use Rattle.plant.specs.declared.Plant.{Plant}
 use Rattle.syntax.specs.declared.Rule.{Rule}
+use Rattle.syntax.specs.Value.{formulaOf}
 use Rattle.log.specs.declared.Event.{Event}
 use Rattle.log.specs.Legal.{legalOf}
-use Rattle.checks.specs.Checks.{andThen, unless, formulaOf, pairsFit}
+use Rattle.checks.specs.Checks.{pairsFit}
 use Rattle.advance.specs.declared.Monitor.{Monitor}
 use Rattle.monitor.specs.Calls.{checkedOf}
 

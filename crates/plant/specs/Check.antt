@@ -20,12 +20,11 @@ use Rattle.words.specs.Truth.{and-says}
 use Rattle.words.specs.Tests.{below-cases}
 use Rattle.words.specs.Laws.{bit-above}
 use Rattle.words.specs.Unions.{union-lt, some-member}
-use Rattle.answers.specs.Paper.{kindNumber}
 use Rattle.answers.specs.declared.Kind.the-variants.{Counts, Bits}
-use Rattle.answers.specs.declared.Outcome.{Outcome}
-use Rattle.answers.specs.declared.Outcome.the-variants.{Accepted, Refused}
+use Rattle.answers.specs.declared.Outcome.the-variants.{Accepted}
+use Rattle.answers.specs.Chain.{refusedAs, differ}
 use Rattle.plant.specs.declared.Plant.{Plant}
-use Rattle.plant.specs.Table.{plantOf, countsOf, bitsOf, united, refusedAs, tableOutcome, Lengths, Beyond, BitBeyond, in-start, in-fair, in-label, in-next}
+use Rattle.plant.specs.Table.{plantOf, countsOf, bitsOf, united, tableOutcome, Lengths, Beyond, BitBeyond, in-start, in-fair, in-label, in-next}
 
 -- ---- sets below a bound
 
@@ -109,14 +108,6 @@ counts-exactly p fair label next = (there, back)
           ),
           and-says _ _ .1 (eq-eqb label (p .states) (s .labels), eq-eqb next (p .states) (s .nexts)),
         )
-
--- answers of different numbers differ
-abbrev pub number : Outcome → ℕ
-number Accepted = 0
-number (Refused r) = kindNumber (r .kind)
-
-pub differ : {A : Type 0} {o : Outcome} (a b : Outcome) → (number a ≡ number b → ⊥) → o ≡ a → o ≡ b → A
-differ a b d e f = absurd (d (ap number (sym e ∙ f)))
 
 module _ (p : Plant) (fair label next : List ℕ) where
   abbrev Long : Type 0

@@ -12,8 +12,9 @@ use Rattle.meaning.specs.Run as run
 use Rattle.meaning.specs.Limits.{AcceptedTable}
 use Rattle.answers.specs.declared.Kind.the-variants.{Counts, Bits, TableText}
 use Rattle.answers.specs.declared.Outcome.{Outcome}
-use Rattle.answers.specs.declared.Outcome.the-variants.{Accepted, Refused}
+use Rattle.answers.specs.declared.Outcome.the-variants.{Accepted}
 use Rattle.answers.specs.Paper.{refusedAt}
+use Rattle.answers.specs.Chain.{refusedAs, placeOf, differ}
 use Rattle.text.specs.Slot.{Slot, matched}
 use Rattle.text.specs.Cases.{if-below}
 use Rattle.text.specs.Number.{widthOf}
@@ -22,8 +23,8 @@ use Rattle.text.specs.Place.{Fills, OfForm, RefusedAt, reads-whole, misfits, fi
 use Rattle.text.specs.Promises.{WrittenOut, fitOf, written-small, form-or-place, filled-out, of-form-out, out-one}
 use Rattle.plant.specs.declared.Plant.{Plant}
 use Rattle.plant.specs.declared.TableRead.{TableRead}
-use Rattle.plant.specs.Table.{plantOf, refusedAs, Lengths, BitBeyond}
-use Rattle.plant.specs.Check.{differ, accepted-exactly, counts-refused, bits-refused, one-of-three}
+use Rattle.plant.specs.Table.{plantOf, Lengths, BitBeyond}
+use Rattle.plant.specs.Check.{accepted-exactly, counts-refused, bits-refused, one-of-three}
 use Rattle.plant.specs.Text.{tableForm, table-reads}
 use Rattle.plant.specs.Read.{countsIn, tableOf, refusedRead, answered, checkOf, lentCheck, readAs, tableRead, lent-check, take-padded}
 use Rattle.plant.specs.Written.{WellFormed, tableSlots, tableText, slots-are, well-formed, formed-well}
@@ -167,10 +168,6 @@ two-exactly s = (λ e. by-case e (reading s), λ (t, w, b, e). small-read t s w 
     by-case e (accepted t a f r) = differ _ _ (λ n. omega arith) (ap outcomeOf e) (ap outcomeOf r)
     by-case e (beyond t w b f r) = (t, w, b, f)
     by-case e (misformed i p r) = differ _ _ (λ n. omega arith) (ap outcomeOf e) (ap outcomeOf r)
-
-abbrev placeOf : Outcome → ℕ
-placeOf Accepted = 0
-placeOf (Refused r) = r .place
 
 -- refused by 3 exactly at the place that 01 names: the first byte at which no text of the form begins with what was read, the length where it only stops too soon
 pub three-exactly : (s : List ℕ) (i : ℕ) → (tableRead s ≡ refusedRead (refusedAt TableText i)) ↔ RefusedAt tableForm s i

@@ -10,11 +10,10 @@ use Rattle.meaning.specs.Bit.{bit}
 use Rattle.meaning.specs.Limits.{mostProps}
 use Rattle.meaning.specs.Run as run
 use Rattle.words.specs.Below.{unionBelow}
-use Rattle.answers.specs.declared.Kind.{Kind}
 use Rattle.answers.specs.declared.Kind.the-variants.{Counts, Bits}
 use Rattle.answers.specs.declared.Outcome.{Outcome}
-use Rattle.answers.specs.declared.Outcome.the-variants.{Accepted, Refused}
-use Rattle.answers.specs.Paper.{refusedAt}
+use Rattle.answers.specs.declared.Outcome.the-variants.{Accepted}
+use Rattle.answers.specs.Chain.{refusedAs}
 use Rattle.plant.specs.declared.Plant.{Plant}
 
 -- the table that is handed in as its counts and its parts
@@ -38,10 +37,6 @@ abbrev pub bitsOf : Plant → List ℕ → List ℕ → List ℕ → Bool
 bitsOf p fair label next = ltb (bitOr (bitOr (p .start) (united fair)) (united next)) (2 ^ p .states) && ltb (united label) (2 ^ p .props)
 
 -- ---- the answer: 1 before 2
-
--- a refusal at place 0
-abbrev pub refusedAs : Kind → Outcome
-refusedAs k = Refused (refusedAt k 0)
 
 -- 1 for the counts and lengths, 2 for the bits, and else accepted
 abbrev pub tableOutcome : Plant → List ℕ → List ℕ → List ℕ → Outcome

@@ -27,7 +27,7 @@ use Rattle.answers.proofs.One.{verdict-number}
 use Rattle.plant.specs.declared.Plant.{Plant}
 use Rattle.syntax.specs.declared.Rule.{Rule}
 use Rattle.log.specs.declared.Event.{Event}
-use Rattle.checks.proofs.Input.{Input}
+use Rattle.checks.specs.Input.{Input}
 use Rattle.advance.specs.declared.Monitor.{Monitor}
 use Rattle.advance.specs.Held.{eventOf}
 use Rattle.monitor.specs.Calls.{lampOf}

@@ -36,7 +36,7 @@ use Rattle.reader.specs.Draft as reader
 use Rattle.rule.specs.declared.RuleRead.{RuleRead}
 use Rattle.rule.specs.declared.Found.{Found}
 use Rattle.rule.specs.declared.Found.the-variants.{At, Nowhere}
-use Rattle.rule.specs.Reading.{refusedAs, accepted, unknownAt, ofFound, ofScan, ofTable, ruleRead}
+use Rattle.rule.specs.Reading.{noRule, accepted, unknownAt, ofFound, ofScan, ofTable, ruleRead}
 use Rattle.rule.specs.Valid.{RuleValue}
 use Rattle.rule.specs.Paper.{Beside}
 use Rattle.rule.proofs.Promises as rules
@@ -47,7 +47,7 @@ use Rattle.log.specs.Read.{wholeLines}
 use Rattle.log.specs.declared.LogRead.{LogRead}
 use Rattle.log.specs.Promises as logs
 use Rattle.log.specs.Promises.{AllWritable, all-ok, log-out, small-read}
-use Rattle.checks.proofs.Input.{Input, given, formula-is}
+use Rattle.checks.specs.Input.{Input, given, formula-is}
 use Rattle.report.specs.Text.{lf}
 use Rattle.transcript.specs.Said as said
 use Rattle.transcript.specs.Said.{File, bytes, missing, outputOf}
@@ -146,7 +146,7 @@ front-door plant rule log t f es table-says table rule-says log-says = let text 
 
 -- what a rule's text is answered: a refusal, or a rule
 data Answer : RuleRead → Type 0 where
-  refuses : (kind : Kind) (i : ℕ) → Answer (refusedAs kind i)
+  refuses : (kind : Kind) (i : ℕ) → Answer (noRule kind i)
   gives : (r : Rule) → Answer (accepted r)
 
 either : (b : Bool) (x y : RuleRead) → Answer x → Answer y → Answer (cond b x y)

@@ -29,7 +29,7 @@ use Rattle.log.specs.declared.Event.{Event}
 use Rattle.log.specs.Legal.{seenOf, legalOf, legal-exactly}
 use Rattle.log.specs.Log.{nothing}
 use Rattle.log.specs.Read.{logRead, wholeLines, eventAt}
-use Rattle.checks.proofs.Input.{Input}
+use Rattle.checks.specs.Input.{Input}
 use Rattle.live.proofs.Promises.{prepare-accepted}
 use Rattle.advance.specs.declared.Monitor.{Monitor}
 use Rattle.advance.specs.Held.{modelOf, eventOf, lampIn}

@@ -8,8 +8,7 @@ use borrow.Author.Tests.{ltb-true, ltb-false}
 use lib.Dec.{T, ltb}
 use lib.ListN.{length}
 use Rattle.answers.specs.declared.Kind.{Kind}
-use Rattle.answers.specs.declared.Outcome.{Outcome}
-use Rattle.answers.specs.declared.Outcome.the-variants.{Accepted, Refused as Fails}
+use Rattle.answers.specs.Chain.{isAccepted}
 use Rattle.answers.specs.declared.Kind.the-variants.{RuleLength, RuleText, Proposition, Nodes, Parts}
 use Rattle.meaning.specs.Formula.{Formula, size, parts}
 use Rattle.syntax.specs.declared.Rule.{Rule}
@@ -28,24 +27,20 @@ use Rattle.reader.specs.Draft.{written}
 use Rattle.reader.proofs.Written.{written-rule, written-over}
 use Rattle.rule.specs.declared.Found.{Found}
 use Rattle.rule.specs.declared.Found.the-variants.{At, Nowhere}
-use Rattle.rule.specs.Reading.{refusedAs, accepted, unknownAt, limited, textRead}
+use Rattle.rule.specs.Reading.{noRule, accepted, unknownAt, limited, textRead}
 use Rattle.rule.proofs.Checks.{limited-long, limited-many, limited-fine, named-unknown, named-fine, read-long, read-bad, read-good}
 use Rattle.rule.proofs.Known.{below-exactly, first-unknown, none-unknown}
 
 -- a refusal is no acceptance
-abbrev takes : Outcome → Bool
-takes Accepted = true
-takes (Fails x) = false
-
-pub refusal-none : (kind : Kind) (k : ℕ) (r : Rule) → refusedAs kind k ≡ accepted r → ⊥
-refusal-none kind k r e = subst T (ap (λ a. takes (a .outcome)) (sym e)) tt
+pub refusal-none : (kind : Kind) (k : ℕ) (r : Rule) → noRule kind k ≡ accepted r → ⊥
+refusal-none kind k r e = subst T (ap (λ a. isAccepted (a .outcome)) (sym e)) tt
 
 -- the limits, by the rule
 module _ (f : Formula) where
-  limits-size : 32 < size f → limited (written emptyRule (postfix f)) ≡ refusedAs Nodes 0
+  limits-size : 32 < size f → limited (written emptyRule (postfix f)) ≡ noRule Nodes 0
   limits-size h = limited-long (written emptyRule (postfix f)) (omega (arith, written-over f h))
 
-  limits-parts : size f ≤ 32 → 6 < parts f → limited (written emptyRule (postfix f)) ≡ refusedAs Parts 0
+  limits-parts : size f ≤ 32 → 6 < parts f → limited (written emptyRule (postfix f)) ≡ noRule Parts 0
   limits-parts h g = ap limited (written-rule f h) ∙ limited-many (ruleOf f) h (omega (arith, parts-held f))
 
   limits-fine : size f ≤ 32 → parts f ≤ 6 → limited (written emptyRule (postfix f)) ≡ accepted (ruleOf f)
@@ -60,33 +55,33 @@ good {f} {s} r = go (scan s) refl
     go (Bad k) e = absurd ((rw e at (scanned s)) .outside f r)
 
 module _ (q : ℕ) (s : List ℕ) where
-  pub reads-long : 512 < length s → textRead s q ≡ refusedAs RuleLength 512
+  pub reads-long : 512 < length s → textRead s q ≡ noRule RuleLength 512
   reads-long h = read-long s q h
 
   module _ (short : length s ≤ 512) where
-    pub reads-none : (k : ℕ) → Refused s k → textRead s q ≡ refusedAs RuleText k
+    pub reads-none : (k : ℕ) → Refused s k → textRead s q ≡ noRule RuleText k
     reads-none k r = go (scan s) refl
       where
-        go : (x : Scan) → scan s ≡ x → textRead s q ≡ refusedAs RuleText k
+        go : (x : Scan) → scan s ≡ x → textRead s q ≡ noRule RuleText k
         go Good e = let g : (f : Formula) × SaidBy f s = rw e at (scanned s) in absurd (r .outside (g .0) (g .1))
-        go (Bad m) e = read-bad s q m short e ∙ ap (refusedAs RuleText) (one-place s m k (rw e at (scanned s)) r)
+        go (Bad m) e = read-bad s q m short e ∙ ap (noRule RuleText) (one-place s m k (rw e at (scanned s)) r)
 
     module _ (some : 1 ≤ q) {f : Formula} (says : SaidBy f s) where
-      pub reads-unknown : (k : ℕ) → Unknown q s k → textRead s q ≡ refusedAs Proposition k
+      pub reads-unknown : (k : ℕ) → Unknown q s k → textRead s q ≡ noRule Proposition k
       reads-unknown k u = go (unknownAt q 0 s) refl
         where
-          go : (x : Found) → unknownAt q 0 s ≡ x → textRead s q ≡ refusedAs Proposition k
+          go : (x : Found) → unknownAt q 0 s ≡ x → textRead s q ≡ noRule Proposition k
           go Nowhere e = absurd (omega (arith, u .beyond, none-unknown q s 0 e k (u .which) (u .here)))
-          go (At m) e = read-good s q short (good says) ∙ named-unknown s q m e ∙ ap (refusedAs Proposition) (one-unknown q s m k (first-unknown q some s m e) u)
+          go (At m) e = read-good s q short (good says) ∙ named-unknown s q m e ∙ ap (noRule Proposition) (one-unknown q s m k (first-unknown q some s m e) u)
 
     module _ {f : Formula} (says : SaidBy f s) (below : Below q f) where
       reads-known : textRead s q ≡ limited (written emptyRule (postfix f))
       reads-known = read-good s q short (good says) ∙ named-fine s q (below-exactly q says .1 below) ∙ ap (λ os. limited (written emptyRule os)) (parsed says)
 
-      pub reads-large : 32 < size f → textRead s q ≡ refusedAs Nodes 0
+      pub reads-large : 32 < size f → textRead s q ≡ noRule Nodes 0
       reads-large h = reads-known ∙ limits-size f h
 
-      pub reads-many : size f ≤ 32 → 6 < parts f → textRead s q ≡ refusedAs Parts 0
+      pub reads-many : size f ≤ 32 → 6 < parts f → textRead s q ≡ noRule Parts 0
       reads-many h g = reads-known ∙ limits-parts f h g
 
       pub reads-rule : size f ≤ 32 → parts f ≤ 6 → textRead s q ≡ accepted (ruleOf f)

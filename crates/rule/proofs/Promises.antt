@@ -23,7 +23,7 @@ use Rattle.syntax.proofs.Parse.{one-rule}
 use Rattle.syntax.proofs.Printed.{printed, short, longest, below-more}
 use Rattle.rule.specs.declared.Printed.{Printed}
 use Rattle.rule.specs.declared.Printed.the-variants.{Text, Refused as NoText}
-use Rattle.rule.specs.Reading.{refusedAs, accepted, textRead, ruleRead}
+use Rattle.rule.specs.Reading.{noRule, accepted, textRead, ruleRead}
 use Rattle.rule.specs.Valid.{validOf, RuleValue}
 use Rattle.words.specs.Over.{over}
 use Rattle.rule.specs.Printing.{textOf, noPrint, printAnswer, printBuffer}
@@ -50,7 +50,7 @@ module _ (p : Plant) (fair label next : List ℕ) where
   accepted-exactly s = answering.accepted-exactly p fair label next s
 
   -- each refusal is given exactly if 01 says so, at the place that 01 says, and in 01's order
-  pub refused-exactly : (s : List ℕ) (kind : Kind) (k : ℕ) → (ruleRead p fair label next s ≡ refusedAs kind k) ↔ Because p fair label next s kind k
+  pub refused-exactly : (s : List ℕ) (kind : Kind) (k : ℕ) → (ruleRead p fair label next s ≡ noRule kind k) ↔ Because p fair label next s kind k
   refused-exactly s = answering.refused-exactly p fair label next s
 
 -- the grammar is unambiguous: a text says one rule

@@ -4,7 +4,7 @@ use mathlib.Core.Path.{_≡_}
 use mathlib.Core.List.{List}
 use lib.ListN.{length}
 use Rattle.answers.specs.declared.Kind.{Kind}
-use Rattle.answers.specs.declared.Kind.the-variants.{Counts, Bits, TableText, RuleLength, RuleText, Proposition, Nodes, Parts, Value, Event, Room, LogText, NoPair, File}
+use Rattle.answers.specs.declared.Kind.the-variants.{Counts, Bits, RuleLength, RuleText, Proposition, Nodes, Parts}
 use Rattle.meaning.specs.Formula.{Formula, size, parts}
 use Rattle.meaning.specs.Limits.{AcceptedTable}
 use Rattle.plant.specs.declared.Plant.{Plant}
@@ -34,19 +34,12 @@ pub record Takes (p : Plant) (fair label next s : List ℕ) (r : Rule) : Type 0 
   pub few : parts formula ≤ 6
   pub is : r ≡ ruleOf formula
 
--- 01's table: what each refusal is given for, and at which place k, where no row before it applies
-abbrev pub Because : Plant → List ℕ → List ℕ → List ℕ → List ℕ → Kind → ℕ → Type 0
-Because p fair label next s Counts k = (Lengths p (length fair) (length label) (length next) → ⊥) × (k ≡ 0)
-Because p fair label next s Bits k = Lengths p (length fair) (length label) (length next) × BitBeyond p fair label next × (k ≡ 0)
-Because p fair label next s RuleLength k = Beside p fair label next × (512 < length s) × (k ≡ 512)
-Because p fair label next s RuleText k = Beside p fair label next × (length s ≤ 512) × Refused s k
-Because p fair label next s Proposition k = (f : Formula) × Reads p fair label next s f × Unknown (p .props) s k
-Because p fair label next s Nodes k = (f : Formula) × Reads p fair label next s f × Below (p .props) f × (32 < size f) × (k ≡ 0)
-Because p fair label next s Parts k = (f : Formula) × Reads p fair label next s f × Below (p .props) f × (size f ≤ 32) × (6 < parts f) × (k ≡ 0)
-Because p fair label next s TableText k = ⊥
-Because p fair label next s Value k = ⊥
-Because p fair label next s Event k = ⊥
-Because p fair label next s Room k = ⊥
-Because p fair label next s LogText k = ⊥
-Because p fair label next s NoPair k = ⊥
-Because p fair label next s File k = ⊥
+-- 01's table, a row for each refusal: what it is given for, where no row before it applies, and at which place
+pub data Because (p : Plant) (fair label next s : List ℕ) : Kind → ℕ → Type 0 where
+  counts : (Lengths p (length fair) (length label) (length next) → ⊥) → Because p fair label next s Counts 0
+  bits : Lengths p (length fair) (length label) (length next) → BitBeyond p fair label next → Because p fair label next s Bits 0
+  too-long : Beside p fair label next → 512 < length s → Because p fair label next s RuleLength 512
+  no-text : {k : ℕ} → Beside p fair label next → length s ≤ 512 → Refused s k → Because p fair label next s RuleText k
+  unknown : {k : ℕ} {f : Formula} → Reads p fair label next s f → Unknown (p .props) s k → Because p fair label next s Proposition k
+  too-large : {f : Formula} → Reads p fair label next s f → Below (p .props) f → 32 < size f → Because p fair label next s Nodes 0
+  too-many : {f : Formula} → Reads p fair label next s f → Below (p .props) f → size f ≤ 32 → 6 < parts f → Because p fair label next s Parts 0

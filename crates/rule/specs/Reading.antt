@@ -24,8 +24,8 @@ use Rattle.rule.specs.declared.Found.{Found}
 use Rattle.rule.specs.declared.Found.the-variants.{At, Nowhere}
 
 -- a refusal, and beside it the value with no node
-abbrev pub refusedAs : Kind → ℕ → RuleRead
-refusedAs k place = record { outcome = Refused (refusedAt k place); rule = emptyRule }
+abbrev pub noRule : Kind → ℕ → RuleRead
+noRule k place = record { outcome = Refused (refusedAt k place); rule = emptyRule }
 
 -- the rule that a text gives
 abbrev pub accepted : Rule → RuleRead
@@ -43,11 +43,11 @@ unknownAt q i (b ∷ s) = cond (unknown q b s) (At i) (unknownAt q (i + 1) s)
 
 -- 7 and 8
 abbrev pub limited : Rule → RuleRead
-limited r = cond (ltb 32 (r .len)) (refusedAs Nodes 0) (cond (ltb 6 (count (held r))) (refusedAs Parts 0) (accepted r))
+limited r = cond (ltb 32 (r .len)) (noRule Nodes 0) (cond (ltb 6 (count (held r))) (noRule Parts 0) (accepted r))
 
 -- 6
 abbrev pub ofFound : RuleRead → Found → RuleRead
-ofFound r (At k) = refusedAs Proposition k
+ofFound r (At k) = noRule Proposition k
 ofFound r Nowhere = r
 
 -- what a text of the grammar is answered, for q propositions
@@ -56,16 +56,16 @@ named s q = ofFound (limited (written emptyRule (parse s))) (unknownAt q 0 s)
 
 -- 5
 abbrev pub ofScan : RuleRead → Scan → RuleRead
-ofScan r (Bad k) = refusedAs RuleText k
+ofScan r (Bad k) = noRule RuleText k
 ofScan r Good = r
 
 -- 4, and with it what a text alone is answered, for q propositions
 abbrev pub textRead : List ℕ → ℕ → RuleRead
-textRead s q = cond (ltb 512 (length s)) (refusedAs RuleLength 512) (ofScan (named s q) (scan s))
+textRead s q = cond (ltb 512 (length s)) (noRule RuleLength 512) (ofScan (named s q) (scan s))
 
 -- 1 and 2
 abbrev pub ofTable : RuleRead → Outcome → RuleRead
-ofTable r (Refused x) = refusedAs (x .kind) (x .place)
+ofTable r (Refused x) = noRule (x .kind) (x .place)
 ofTable r Accepted = r
 
 -- what a text is answered, with the table lent beside it

@@ -5,7 +5,7 @@ use answers::Refusal;
 use plant::Plant;
 use syntax::Rule;
 ghost use mathlib.Core.Path.{_≡_};
-ghost use Rattle.rule.specs.Reading.{refusedAs, ruleRead};
+ghost use Rattle.rule.specs.Reading.{noRule, ruleRead};
 ghost use Rattle.rule.specs.Valid.{validOf};
 ghost use Rattle.rule.specs.Printing.{printAnswer, printBuffer};
 
@@ -20,7 +20,7 @@ pub struct RuleRead {
 
 impl RuleRead {
     pub fn refused(kind: Kind, place: usize) -> Self
-        ensures { λ r. ⌜ r ≡ refusedAs kind place ⌝ }
+        ensures { λ r. ⌜ r ≡ noRule kind place ⌝ }
     {
         let rule = Rule::empty();
         let refusal = Refusal::at(kind, place);

@@ -4,12 +4,12 @@ use mathlib.Core.List.{List, [], _∷_, _++_}
 use mathlib.Core.Bool.{Bool, true, false, cond}
 use lib.Dec.{ltb}
 use lib.ListN.{take, drop, replicate}
-use Rattle.meaning.specs.Formula.{Formula, size}
+use Rattle.meaning.specs.Formula.{Formula, never, size}
 use Rattle.syntax.specs.declared.Op.{Op}
 use Rattle.syntax.specs.declared.Op.the-variants.{False, True, Prop, Not, Next, Finally, Globally, Until, Release, And, Or, Implies}
 use Rattle.syntax.specs.declared.Node.{Node}
 use Rattle.syntax.specs.declared.Rule.{Rule}
-use Rattle.syntax.specs.Postfix.{postfix}
+use Rattle.syntax.specs.Postfix.{postfix, decode}
 
 -- what stands where no node does
 abbrev pub blank : Node
@@ -40,6 +40,15 @@ held r = opsOf (take (r .len) (r .nodes))
 
 abbrev pub beyond : Rule → List Op
 beyond r = opsOf (drop (r .len) (r .nodes))
+
+-- the rule on top of a stack
+abbrev pub topOf : List Formula → Formula
+topOf [] = never
+topOf (f ∷ fs) = f
+
+-- the rule that a value's nodes are
+unfoldable pub formulaOf : Rule → Formula
+formulaOf r = topOf (decode (held r) [])
 
 -- whether an operator is a temporal part
 abbrev pub isPart : Op → Bool

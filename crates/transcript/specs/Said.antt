@@ -15,7 +15,7 @@ use Rattle.plant.specs.declared.TableRead.{TableRead}
 use Rattle.plant.specs.Read.{tableRead, refusedRead}
 use Rattle.syntax.specs.declared.Rule.{Rule}
 use Rattle.rule.specs.declared.RuleRead.{RuleRead}
-use Rattle.rule.specs.Reading.{refusedAs, ruleRead}
+use Rattle.rule.specs.Reading.{noRule, ruleRead}
 use Rattle.text.specs.Number.{widthOf}
 use Rattle.text.specs.Lines.{lineStart}
 use Rattle.log.specs.Line.{lineBytes}
@@ -50,7 +50,7 @@ plantRead missing = refusedRead (refusedAt FileKind 0)
 -- one final LF of the rule is dropped
 abbrev pub ruleGiven : Plant → List ℕ → List ℕ → List ℕ → File → RuleRead
 ruleGiven p fair label next (bytes text) = ruleRead p fair label next (take (endOf text) text)
-ruleGiven p fair label next missing = refusedAs FileKind 0
+ruleGiven p fair label next missing = noRule FileKind 0
 
 -- a log's lines are as wide as the table's propositions ask for
 abbrev pub logOutcome : ℕ → File → Outcome

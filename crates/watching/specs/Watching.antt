@@ -21,14 +21,16 @@ use Rattle.answers.specs.declared.Answer.the-variants.{Refused}
 use Rattle.answers.specs.declared.Outcome.{Outcome}
 use Rattle.answers.specs.declared.Outcome.the-variants.{Accepted}
 use Rattle.answers.specs.Paper.{refusedAt}
+use Rattle.answers.specs.Chain.{andThen, unless}
 use Rattle.plant.specs.declared.Plant.{Plant}
 use Rattle.plant.specs.Table.{plantOf}
 use Rattle.syntax.specs.declared.Rule.{Rule}
 use Rattle.syntax.proofs.Values.{full-value}
+use Rattle.syntax.specs.Value.{formulaOf}
 use Rattle.log.specs.declared.Event.{Event}
 use Rattle.log.specs.Legal.{seenOf, legalOf}
-use Rattle.checks.specs.Checks.{andThen, unless, formulaOf, inputOutcome}
-use Rattle.checks.proofs.Input.{Input, input-accepted}
+use Rattle.checks.specs.Checks.{inputOutcome}
+use Rattle.checks.specs.Input.{Input, input-accepted}
 use Rattle.advance.specs.declared.Monitor.{Monitor}
 use Rattle.advance.specs.Held.{modelOf, monitorOf, eventOf}
 use Rattle.monitor.specs.declared.Watched.{Watched}

@@ -25,15 +25,16 @@ use Rattle.answers.specs.declared.Answer.the-variants as Looks
 use Rattle.answers.specs.declared.Outcome.{Outcome}
 use Rattle.answers.specs.declared.Outcome.the-variants.{Accepted, Refused}
 use Rattle.answers.specs.Paper.{refusedAt}
+use Rattle.answers.specs.Chain.{unless, first-refuses, first-passes, test-passes, test-fails, chain-accepts, unless-accepts}
 use Rattle.plant.specs.declared.Plant.{Plant}
 use Rattle.plant.specs.Table.{plantOf}
 use Rattle.syntax.specs.declared.Rule.{Rule}
+use Rattle.syntax.specs.Value.{formulaOf}
 use Rattle.truth.specs.Tables.{tablesOf}
 use Rattle.ways.specs.declared.Ways.{Ways}
 use Rattle.ways.specs.Ways.{waysOf}
-use Rattle.checks.specs.Checks.{unless, formulaOf, inputOutcome}
-use Rattle.checks.specs.Exactly.{first-refuses, first-passes, test-passes, test-fails, chain-accepts, unless-accepts}
-use Rattle.checks.proofs.Input.{Input}
+use Rattle.checks.specs.Checks.{inputOutcome}
+use Rattle.checks.specs.Input.{Input}
 use Rattle.checks.proofs.Given.{right}
 use Rattle.live.specs.Right.{live-is}
 use Rattle.live.proofs.Given.{live-set-is}

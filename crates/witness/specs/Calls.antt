@@ -13,10 +13,11 @@ use Rattle.model.specs.Witness.{hasLive}
 use Rattle.answers.specs.declared.Kind.the-variants.{Room, NoPair}
 use Rattle.answers.specs.declared.Outcome.{Outcome}
 use Rattle.answers.specs.declared.Outcome.the-variants.{Accepted, Refused}
+use Rattle.answers.specs.Chain.{andThen, unless}
 use Rattle.plant.specs.declared.Plant.{Plant}
 use Rattle.plant.specs.Table.{plantOf}
 use Rattle.syntax.specs.declared.Rule.{Rule}
-use Rattle.checks.specs.Checks.{andThen, unless, formulaOf}
+use Rattle.syntax.specs.Value.{formulaOf}
 use Rattle.advance.specs.declared.Monitor.{Monitor}
 use Rattle.advance.specs.Held.{modelOf}
 use Rattle.monitor.specs.Calls.{checkedOf}

@@ -12,7 +12,8 @@ ghost use Prim.Native.Nat.{_≤_};
 ghost use lib.ListN.{length};
 ghost use Rattle.answers.specs.declared.Outcome.the-variants.{Accepted};
 ghost use Rattle.plant.specs.Table.{plantOf};
-ghost use Rattle.checks.specs.Checks.{formulaOf, inputOutcome};
+ghost use Rattle.checks.specs.Checks.{inputOutcome};
+ghost use Rattle.syntax.specs.Value.{formulaOf};
 ghost use Rattle.witness.specs.Calls.{Sought};
 
 // Of an accepted table and rule. Check 13 is whether the asked set has a live pair.

@@ -2,8 +2,8 @@
 use mathlib.Core.Path.{_∙_}
 use borrow.Author.Needs.{needs}
 use Rattle.answers.specs.declared.Kind.the-variants.{Value}
+use Rattle.answers.specs.Chain.{first-refuses, first-passes, test-passes, test-fails}
 use Rattle.checks.specs.Checks.{inputOutcome}
-use Rattle.checks.specs.Exactly.{first-refuses, first-passes, test-passes, test-fails}
 use Rattle.checks.proofs.check_input.Statement.{statement}
 use Rattle.checks.proofs.check_input.Tie as tie
 

@@ -3,7 +3,7 @@ use mathlib.Core.Path.{_∙_}
 use borrow.Author.Needs.{needs}
 use native.Mathlib.Omega.{arith}
 use Rattle.answers.specs.declared.Kind.the-variants.{Value}
-use Rattle.checks.specs.Exactly.{first-refuses, first-passes, test-passes, test-fails}
+use Rattle.answers.specs.Chain.{first-refuses, first-passes, test-passes, test-fails}
 use Rattle.syntax.proofs.Held.{full}
 use Rattle.monitor.specs.Checked.{heldOf}
 use Rattle.checks.proofs.Given.{accepted, ready}

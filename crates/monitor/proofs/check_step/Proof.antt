@@ -2,7 +2,7 @@
 use mathlib.Core.Path.{ap, _∙_}
 use borrow.Author.Needs.{needs}
 use Rattle.answers.specs.declared.Kind.the-variants.{Event}
-use Rattle.checks.specs.Exactly.{first-refuses, first-passes, test-passes, test-fails}
+use Rattle.answers.specs.Chain.{first-refuses, first-passes, test-passes, test-fails}
 use Rattle.monitor.specs.Checked.{heldOf, caughtOf}
 use Rattle.monitor.proofs.check_step.Statement.{statement}
 use Rattle.monitor.proofs.check_step.Tie as tie

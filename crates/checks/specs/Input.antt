@@ -10,17 +10,17 @@ use Rattle.meaning.specs.Formula.{parts, size}
 use Rattle.meaning.specs.Limits.{AcceptedTable}
 use Rattle.answers.specs.declared.Kind.the-variants.{Counts, Bits, Value}
 use Rattle.answers.specs.declared.Outcome.the-variants.{Accepted}
+use Rattle.answers.specs.Chain.{refusedAs, differ, unless, chain-accepts, chain-refuses, unless-accepts, unless-refuses}
 use Rattle.plant.specs.declared.Plant.{Plant}
-use Rattle.plant.specs.Table.{plantOf, refusedAs, tableOutcome}
-use Rattle.plant.specs.Check.{differ, accepted-exactly, one-of-three}
+use Rattle.plant.specs.Table.{plantOf, tableOutcome}
+use Rattle.plant.specs.Check.{accepted-exactly, one-of-three}
 use Rattle.syntax.specs.declared.Rule.{Rule}
 use Rattle.syntax.specs.Print.{Below}
-use Rattle.syntax.specs.Value.{ruleOf}
+use Rattle.syntax.specs.Value.{ruleOf, topOf, formulaOf}
 use Rattle.rule.specs.Valid.{validOf, RuleValue}
 use Rattle.rule.proofs.Values.{valid-exactly, decoded}
 use Rattle.words.specs.Truth.{not-so}
-use Rattle.checks.specs.Checks.{unless, topOf, formulaOf, inputOutcome}
-use Rattle.checks.specs.Exactly.{chain-accepts, chain-refuses, unless-accepts, unless-refuses}
+use Rattle.checks.specs.Checks.{inputOutcome}
 
 -- the rule of a value of a rule
 pub formula-is : {r : Rule} {q : ℕ} (v : RuleValue r q) → formulaOf r ≡ v .formula
