@@ -1,3 +1,4 @@
 pub mod Run
 pub mod Right
 pub mod Calls
+pub mod OnPaper
