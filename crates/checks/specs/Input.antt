@@ -1,25 +1,22 @@
--- What it means that the table and the rule handed in are accepted, or refused.
+-- What it means that the table and the rule handed in are accepted.
 use Prim.Native.Nat.{ℕ, _≤_}
-use native.Mathlib.Omega.{arith}
-use mathlib.Core.Path.{_≡_, sym, ap, subst, _∙_}
-use mathlib.Core.Logic.{_↔_, inr, ⊎-elim}
-use mathlib.Core.Bool.{false, false≢true}
+use mathlib.Core.Path.{_≡_, sym, ap, subst}
+use mathlib.Core.Logic.{_↔_}
 use mathlib.Core.List.{List}
 use lib.ListN.{length}
 use Rattle.meaning.specs.Formula.{parts, size}
 use Rattle.meaning.specs.Limits.{AcceptedTable}
-use Rattle.answers.specs.declared.Kind.the-variants.{Counts, Bits, Value}
+use Rattle.answers.specs.declared.Kind.the-variants.{Value}
 use Rattle.answers.specs.declared.Outcome.the-variants.{Accepted}
-use Rattle.answers.specs.Chain.{refusedAs, differ, unless, chain-accepts, chain-refuses, unless-accepts, unless-refuses}
+use Rattle.answers.specs.Chain.{unless, chain-accepts, unless-accepts}
 use Rattle.plant.specs.declared.Plant.{Plant}
 use Rattle.plant.specs.Table.{plantOf, tableOutcome}
-use Rattle.plant.specs.Check.{accepted-exactly, one-of-three}
+use Rattle.plant.specs.Check.{accepted-exactly}
 use Rattle.syntax.specs.declared.Rule.{Rule}
 use Rattle.syntax.specs.Print.{Below}
 use Rattle.syntax.specs.Value.{ruleOf, topOf, formulaOf}
 use Rattle.rule.specs.Valid.{validOf, RuleValue}
 use Rattle.rule.proofs.Values.{valid-exactly, decoded}
-use Rattle.words.specs.Truth.{not-so}
 use Rattle.checks.specs.Checks.{inputOutcome}
 
 -- the rule of a value of a rule
@@ -70,28 +67,3 @@ module _ (p : Plant) (fair label next : List ℕ) (rule : Rule) where
               unless-accepts (validOf rule (p .props)) Value .1 (valid-exactly rule (p .props) full .1
                   (record { formula = formulaOf rule; is = i .is; small = i .small; few = i .few; below = i .below })),
             )
-
-    -- refused by 9 exactly if the table is accepted, and the value is of no such rule
-    pub value-refused : (inputOutcome p fair label next rule ≡ refusedAs Value) ↔ ((tableOutcome p fair label next ≡ Accepted) × (RuleValue rule (p .props) → ⊥))
-    unfolding inputOutcome
-    value-refused = (there, back)
-      where
-        not-valid : validOf rule (p .props) ≡ false → RuleValue rule (p .props) → ⊥
-        not-valid e v = false≢true (sym e ∙ valid-exactly rule (p .props) full .1 v)
-
-        no-table : tableOutcome p fair label next ≡ refusedAs Value → ⊥
-        no-table e =
-            ⊎-elim (⊎-elim (λ f. differ Accepted (refusedAs Value) (λ n. omega arith) f e) (λ f. differ (refusedAs Counts) (refusedAs Value) (λ n. omega arith) f e))
-            (λ f. differ (refusedAs Bits) (refusedAs Value) (λ n. omega arith) f e) (one-of-three p fair label next)
-
-        there : inputOutcome p fair label next rule ≡ refusedAs Value → (tableOutcome p fair label next ≡ Accepted) × (RuleValue rule (p .props) → ⊥)
-        there e =
-            ⊎-elim (λ f. absurd (no-table f)) (λ h. (h .0, not-valid (unless-refuses (validOf rule (p .props)) Value .0 (h .1))))
-            (chain-refuses (tableOutcome p fair label next) (unless (validOf rule (p .props)) Value) _ .0 e)
-
-        back : (tableOutcome p fair label next ≡ Accepted) × (RuleValue rule (p .props) → ⊥) → inputOutcome p fair label next rule ≡ refusedAs Value
-        back h =
-            chain-refuses (tableOutcome p fair label next) (unless (validOf rule (p .props)) Value) _ .1 (inr (
-              h .0,
-              unless-refuses (validOf rule (p .props)) Value .1 (not-so (validOf rule (p .props)) (λ t. h .1 (valid-exactly rule (p .props) full .0 t))),
-            ))

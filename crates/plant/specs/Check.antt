@@ -47,7 +47,7 @@ united-below n l = (λ h i lt. each (length l) h i lt, union-lt n (length l) (λ
         ⊎-elim (λ (b : i < m). each m (parts .0) i b) (λ (e : i ≡ m). rw e (parts .1)) (below-cases lt)
 
 -- a set that is not of numbers below n names one that is not
-beyond-exactly : (n x : ℕ) → (2 ^ n ≤ x) ↔ Beyond n x
+pub beyond-exactly : (n x : ℕ) → (2 ^ n ≤ x) ↔ Beyond n x
 unfolding bit
 beyond-exactly n x = (there, back)
   where

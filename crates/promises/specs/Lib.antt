@@ -2,6 +2,9 @@ pub mod Demand
 pub mod Marked
 pub mod Laws
 pub mod Unique
+pub mod Causes
+mod Judged
+pub mod Refusals
 pub mod FrontDoor
 mod Lamps
 mod RuleEnd
