@@ -5,6 +5,7 @@ pub mod Unique
 pub mod Causes
 mod Judged
 pub mod Refusals
+pub mod OnPaper
 pub mod FrontDoor
 mod Lamps
 mod RuleEnd

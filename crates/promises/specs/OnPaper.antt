@@ -1,0 +1,27 @@
+-- Two answers of print_rule, or of witness, that stand for the same on paper are equal, as those of the other calls are (answers/proofs/One).
+use mathlib.Core.Path.{_≡_, sym, ap}
+use Rattle.answers.proofs.One.{one-refusal}
+use Rattle.rule.specs.declared.Printed.{Printed}
+use Rattle.rule.specs.declared.Printed.the-variants.{Text}
+use Rattle.rule.specs.declared.Printed.the-variants as Prints
+use Rattle.rule.specs.OnPaper.{printed}
+use Rattle.witness.specs.declared.Witnessed.{Witnessed}
+use Rattle.witness.specs.declared.Witnessed.the-variants.{Run}
+use Rattle.witness.specs.declared.Witnessed.the-variants as Witnesses
+use Rattle.witness.specs.OnPaper.{witnessed}
+use Rattle.promises.specs.Judged.{accepted-taken}
+
+pub one-printed : (a b : Printed) → printed a ≡ printed b → a ≡ b
+one-printed (Text i) (Text j) same = let bytes : i .bytes ≡ j .bytes = cc in λ k. Text (record { bytes = bytes k })
+one-printed (Text i) (Prints.Refused r) same = absurd (accepted-taken _ _ _ same)
+one-printed (Prints.Refused r) (Text j) same = absurd (accepted-taken _ _ _ (sym same))
+one-printed (Prints.Refused q) (Prints.Refused r) same = ap Prints.Refused (one-refusal q r same)
+
+pub one-witnessed : (a b : Witnessed) → witnessed a ≡ witnessed b → a ≡ b
+one-witnessed (Run i) (Run j) same =
+    let stem : i .stem ≡ j .stem = cc in
+    let turn : i .turn ≡ j .turn = cc in
+    λ k. Run (record { stem = stem k; turn = turn k })
+one-witnessed (Run i) (Witnesses.Refused r) same = absurd (accepted-taken _ _ _ same)
+one-witnessed (Witnesses.Refused r) (Run j) same = absurd (accepted-taken _ _ _ (sym same))
+one-witnessed (Witnesses.Refused q) (Witnesses.Refused r) same = ap Witnesses.Refused (one-refusal q r same)
