@@ -16,7 +16,7 @@ use Rattle.syntax.specs.declared.Rule.{Rule}
 use Rattle.syntax.specs.Print.{Below}
 use Rattle.syntax.specs.Value.{ruleOf, topOf, formulaOf}
 use Rattle.rule.specs.Valid.{validOf, RuleValue}
-use Rattle.rule.proofs.Values.{valid-exactly, decoded}
+use Rattle.rule.specs.Values.{valid-exactly, decoded}
 use Rattle.checks.specs.Checks.{inputOutcome}
 
 -- the rule of a value of a rule

@@ -1,3 +1,2 @@
 mod Words
 pub mod Given
-pub mod Promises

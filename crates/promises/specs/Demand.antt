@@ -23,7 +23,7 @@ use Rattle.model.specs.Witness.{Witness}
 use Rattle.answers.specs.declared.Answer.{Answer}
 use Rattle.answers.specs.declared.Answer.the-variants.{Shown, Refused}
 use Rattle.answers.specs.Paper.{verdict, paper, numberOf, kindNumber}
-use Rattle.answers.proofs.One.{verdict-number}
+use Rattle.answers.specs.Promises.{verdict-number}
 use Rattle.plant.specs.declared.Plant.{Plant}
 use Rattle.syntax.specs.declared.Rule.{Rule}
 use Rattle.log.specs.declared.Event.{Event}
@@ -31,7 +31,7 @@ use Rattle.checks.specs.Input.{Input}
 use Rattle.advance.specs.declared.Monitor.{Monitor}
 use Rattle.advance.specs.Held.{eventOf}
 use Rattle.monitor.specs.Calls.{lampOf}
-use Rattle.monitor.proofs.Promises.{lamp-paper}
+use Rattle.monitor.specs.Promises.{lamp-paper}
 use Rattle.watching.specs.Watching as watching
 use Rattle.watching.specs.Watching.{AllLegal, after-model}
 

@@ -39,7 +39,7 @@ use Rattle.rule.specs.declared.Found.the-variants.{At, Nowhere}
 use Rattle.rule.specs.Reading.{noRule, accepted, unknownAt, ofFound, ofScan, ofTable, ruleRead}
 use Rattle.rule.specs.Valid.{RuleValue}
 use Rattle.rule.specs.Paper.{Beside}
-use Rattle.rule.proofs.Promises as rules
+use Rattle.rule.specs.Promises as rules
 use Rattle.log.specs.declared.Event.{Event}
 use Rattle.log.specs.Line.{line, lineBytes, line-fixed}
 use Rattle.log.specs.Log.{nothing, logForm}

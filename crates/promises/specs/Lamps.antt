@@ -30,7 +30,7 @@ use Rattle.log.specs.Legal.{seenOf, legalOf, legal-exactly}
 use Rattle.log.specs.Log.{nothing}
 use Rattle.log.specs.Read.{logRead, wholeLines, eventAt}
 use Rattle.checks.specs.Input.{Input}
-use Rattle.live.proofs.Promises.{prepare-accepted}
+use Rattle.live.specs.Promises.{prepare-accepted}
 use Rattle.advance.specs.declared.Monitor.{Monitor}
 use Rattle.advance.specs.Held.{modelOf, eventOf, lampIn}
 use Rattle.monitor.specs.declared.Watched.{Watched}

@@ -1,6 +1,6 @@
 -- Two answers of print_rule, or of witness, that stand for the same on paper are equal, as those of the other calls are (answers/proofs/One).
 use mathlib.Core.Path.{_≡_, sym, ap}
-use Rattle.answers.proofs.One.{one-refusal}
+use Rattle.answers.specs.Promises.{one-refusal}
 use Rattle.rule.specs.declared.Printed.{Printed}
 use Rattle.rule.specs.declared.Printed.the-variants.{Text}
 use Rattle.rule.specs.declared.Printed.the-variants as Prints

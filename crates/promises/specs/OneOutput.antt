@@ -28,11 +28,11 @@ use Rattle.answers.specs.declared.Answer.{Answer}
 use Rattle.answers.specs.declared.Answer.the-variants.{Shown}
 use Rattle.answers.specs.declared.Answer.the-variants as Answers
 use Rattle.answers.specs.Paper.{Paper, verdict, refused, accepted, numberOf}
-use Rattle.answers.proofs.One.{one-answer}
+use Rattle.answers.specs.Promises.{one-answer}
 use Rattle.plant.specs.Text.{table-reads}
 use Rattle.plant.specs.Promises.{table-out, accepted-formed}
 use Rattle.syntax.specs.Grammar.{SaidBy}
-use Rattle.rule.proofs.Promises.{one-tree}
+use Rattle.rule.specs.Promises.{one-tree}
 use Rattle.log.specs.declared.Event.{Event}
 use Rattle.log.specs.Log.{log-whole}
 use Rattle.log.specs.Promises.{log-out}

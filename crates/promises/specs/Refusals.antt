@@ -44,14 +44,14 @@ use Rattle.rule.specs.declared.Printed.the-variants.{Text}
 use Rattle.rule.specs.Valid.{validOf, RuleValue}
 use Rattle.rule.specs.Printing.{topText, textOf, noPrint, printAnswer}
 use Rattle.rule.specs.OnPaper.{printed}
-use Rattle.rule.proofs.Values.{valid-exactly, decoded}
+use Rattle.rule.specs.Values.{valid-exactly, decoded}
 use Rattle.log.specs.Legal.{seenOf}
 use Rattle.checks.specs.Checks.{inputOutcome}
 use Rattle.checks.specs.Input.{Input, given, formula-is}
 use Rattle.advance.specs.declared.Monitor.{Monitor}
 use Rattle.advance.specs.Held.{modelOf}
 use Rattle.live.specs.Prepare.{preparedOf}
-use Rattle.live.proofs.Promises.{prepare-outcome}
+use Rattle.live.specs.Promises.{prepare-outcome}
 use Rattle.monitor.specs.Calls.{watched, lit, checkedOf, openOf, lookOf, stepChecked, stepOf}
 use Rattle.witness.specs.declared.Witnessed.{Witnessed}
 use Rattle.witness.specs.Calls.{AnsweredAs, Answered, askedOf, witnessOutcome}

@@ -22,7 +22,7 @@ use Rattle.log.specs.Line.{lineBytes}
 use Rattle.log.specs.Read.{wholeLines}
 use Rattle.syntax.specs.declared.Rule.{Rule}
 use Rattle.live.specs.Prepare.{preparedOf}
-use Rattle.live.proofs.Promises.{prepare-accepted}
+use Rattle.live.specs.Promises.{prepare-accepted}
 use Rattle.advance.specs.declared.Monitor.{Monitor}
 use Rattle.monitor.specs.declared.Watched.{Watched}
 use Rattle.monitor.specs.Calls.{openOf}

@@ -36,7 +36,7 @@ use Rattle.advance.specs.Held.{modelOf, monitorOf, eventOf}
 use Rattle.monitor.specs.declared.Watched.{Watched}
 use Rattle.monitor.specs.Calls.{lampOf, none, watched, openOf, stepChecked, stepOf}
 use Rattle.monitor.proofs.Given.{legal-is}
-use Rattle.monitor.proofs.Promises.{open-accepted}
+use Rattle.monitor.specs.Promises.{open-accepted}
 use Rattle.live.specs.Prepare.{preparedAs, preparedOf}
 
 -- a call that is accepted, and what it shows

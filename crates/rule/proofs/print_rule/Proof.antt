@@ -7,8 +7,8 @@ use Rattle.syntax.specs.Grammar.{names}
 use Rattle.syntax.proofs.Held.{full}
 use Rattle.rule.specs.Valid.{RuleValue}
 use Rattle.rule.specs.Printing.{textOf}
-use Rattle.rule.proofs.Values.{valid-rule}
-use Rattle.rule.proofs.Prints.{room, printable, long, laid, not-valid, too-short, fitting}
+use Rattle.rule.specs.Values.{valid-rule}
+use Rattle.rule.specs.Prints.{room, printable, long, laid, not-valid, too-short, fitting}
 use borrow.Author.Needs.{needs}
 use Rattle.rule.proofs.print_rule.Statement.{statement}
 use Rattle.rule.proofs.print_rule.Tie as tie

@@ -1,7 +1,7 @@
 -- `rule::rule_text::is_unknown` meets its contract. Assumes nothing.
 use mathlib.Core.Path.{ap, _∙_}
 use lib.Dec.{leb}
-use Rattle.rule.proofs.Checks.{unknown-end, unknown-other, unknown-name}
+use Rattle.rule.specs.Checks.{unknown-end, unknown-other, unknown-name}
 use borrow.Author.Needs.{needs}
 use Rattle.rule.proofs.rule_text.is_unknown.Statement.{statement}
 use Rattle.rule.proofs.rule_text.is_unknown.Tie as tie

@@ -1,7 +1,7 @@
 -- `rule::rule_text::read_good` meets its contract. Assumes nothing.
 use mathlib.Core.Path.{sym, ap, _∙_}
 use Rattle.rule.specs.Reading.{limited}
-use Rattle.rule.proofs.Checks.{named-unknown, named-fine}
+use Rattle.rule.specs.Checks.{named-unknown, named-fine}
 use borrow.Author.Needs.{needs}
 use Rattle.rule.proofs.rule_text.read_good.Statement.{statement}
 use Rattle.rule.proofs.rule_text.read_good.Tie as tie

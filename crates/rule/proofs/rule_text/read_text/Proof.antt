@@ -2,7 +2,7 @@
 use mathlib.Core.Path.{_≡_, sym, _∙_}
 use Rattle.syntax.specs.declared.Scan.the-variants.{Good, Bad}
 use Rattle.syntax.specs.Scan.{scan}
-use Rattle.rule.proofs.Checks.{read-long, read-bad, read-good}
+use Rattle.rule.specs.Checks.{read-long, read-bad, read-good}
 use borrow.Author.Needs.{needs}
 use Rattle.rule.proofs.rule_text.read_text.Statement.{statement}
 use Rattle.rule.proofs.rule_text.read_text.Tie as tie

@@ -6,7 +6,7 @@ use native.Mathlib.Omega.{arith}
 use lib.ListN.{length, drop}
 use Rattle.rule.specs.declared.Found.the-variants.{At}
 use Rattle.rule.specs.Reading.{unknownAt}
-use Rattle.rule.proofs.Checks.{unknown-turn, unknown-none}
+use Rattle.rule.specs.Checks.{unknown-turn, unknown-none}
 use Rattle.rule.proofs.rule_text.unknown_at.Statement.{statement}
 use Rattle.rule.proofs.rule_text.unknown_at.Tie as tie
 

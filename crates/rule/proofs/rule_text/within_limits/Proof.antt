@@ -1,7 +1,7 @@
 -- `rule::rule_text::within_limits` meets its contract. Assumes nothing.
 use mathlib.Core.Path.{sym, _∙_}
 use native.Mathlib.Omega.{arith}
-use Rattle.rule.proofs.Checks.{limited-long, limited-many, limited-fine}
+use Rattle.rule.specs.Checks.{limited-long, limited-many, limited-fine}
 use borrow.Author.Needs.{needs}
 use Rattle.rule.proofs.rule_text.within_limits.Statement.{statement}
 use Rattle.rule.proofs.rule_text.within_limits.Tie as tie

@@ -28,8 +28,8 @@ use Rattle.reader.proofs.Written.{written-rule, written-over}
 use Rattle.rule.specs.declared.Found.{Found}
 use Rattle.rule.specs.declared.Found.the-variants.{At, Nowhere}
 use Rattle.rule.specs.Reading.{noRule, accepted, unknownAt, limited, textRead}
-use Rattle.rule.proofs.Checks.{limited-long, limited-many, limited-fine, named-unknown, named-fine, read-long, read-bad, read-good}
-use Rattle.rule.proofs.Known.{below-exactly, first-unknown, none-unknown}
+use Rattle.rule.specs.Checks.{limited-long, limited-many, limited-fine, named-unknown, named-fine, read-long, read-bad, read-good}
+use Rattle.rule.specs.Known.{below-exactly, first-unknown, none-unknown}
 
 -- a refusal is no acceptance
 pub refusal-none : (kind : Kind) (k : ℕ) (r : Rule) → noRule kind k ≡ accepted r → ⊥

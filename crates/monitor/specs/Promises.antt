@@ -22,7 +22,7 @@ use Rattle.answers.specs.declared.Answer.the-variants as Answers
 use Rattle.answers.specs.declared.Outcome.{Outcome}
 use Rattle.answers.specs.declared.Outcome.the-variants.{Accepted, Refused}
 use Rattle.answers.specs.Paper.{verdict, paper}
-use Rattle.answers.proofs.One.{verdict-number}
+use Rattle.answers.specs.Promises.{verdict-number}
 use Rattle.answers.specs.Chain.{unless, chain-accepts, unless-accepts}
 use Rattle.plant.specs.declared.Plant.{Plant}
 use Rattle.syntax.specs.declared.Rule.{Rule}

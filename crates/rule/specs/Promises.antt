@@ -28,10 +28,10 @@ use Rattle.rule.specs.Valid.{validOf, RuleValue}
 use Rattle.words.specs.Over.{over}
 use Rattle.rule.specs.Printing.{textOf, noPrint, printAnswer, printBuffer}
 use Rattle.rule.specs.Paper.{Beside, Takes, Because}
-use Rattle.rule.proofs.Judged.{reads-rule, Accepts, text-accepted}
-use Rattle.rule.proofs.Values.{valid-exactly}
-use Rattle.rule.proofs.Prints.{text-is, Printing, no-rule, no-room, its-text, printing, answer-none, answer-room, answer-text}
-use Rattle.rule.proofs.Answering as answering
+use Rattle.rule.specs.Judged.{reads-rule, Accepts, text-accepted}
+use Rattle.rule.specs.Values.{valid-exactly}
+use Rattle.rule.specs.Prints.{text-is, Printing, no-rule, no-room, its-text, printing, answer-none, answer-room, answer-text}
+use Rattle.rule.specs.Answering as answering
 
 -- what stands in an answer of print_rule
 abbrev isText : Printed → Bool

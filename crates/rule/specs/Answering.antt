@@ -15,8 +15,8 @@ use Rattle.syntax.specs.Value.{ruleOf}
 use Rattle.rule.specs.declared.RuleRead.{RuleRead}
 use Rattle.rule.specs.Reading.{noRule, accepted, textRead, ofTable, ruleRead}
 use Rattle.rule.specs.Paper.{Beside, Takes, Because, counts, bits, too-long, no-text, unknown, too-large, too-many}
-use Rattle.rule.proofs.Judged.{refusal-none, reads-long, reads-none, reads-unknown, reads-large, reads-many, reads-rule, Judged}
-use Rattle.rule.proofs.Judged as judged
+use Rattle.rule.specs.Judged.{refusal-none, reads-long, reads-none, reads-unknown, reads-large, reads-many, reads-rule, Judged}
+use Rattle.rule.specs.Judged as judged
 
 module _ (p : Plant) (fair label next s : List ℕ) where
   abbrev answer : RuleRead

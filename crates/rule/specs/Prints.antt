@@ -20,7 +20,7 @@ use Rattle.rule.specs.declared.Printed.the-variants.{Text, Refused}
 use Rattle.rule.specs.Valid.{validOf, RuleValue}
 use Rattle.words.specs.Over.{over}
 use Rattle.rule.specs.Printing.{topText, textOf, noPrint, printAnswer, printBuffer}
-use Rattle.rule.proofs.Values.{rule-valid, valid-rule, decoded}
+use Rattle.rule.specs.Values.{rule-valid, valid-rule, decoded}
 
 pub text-is : {r : Rule} {q : ℕ} (v : RuleValue r q) → textOf r ≡ print (v .formula)
 text-is v = ap topText (decoded v)
