@@ -1,5 +1,5 @@
 -- What an accepted table and rule give the code behind the checks: tables worked out from the rule are right, and their loops may run.
-use mathlib.Core.Path.{_≡_, sym, _∙_}
+use mathlib.Core.Path.{_≡_, sym, ap, _∙_}
 use mathlib.Core.List.{List}
 use Prim.Native.Nat.{ℕ}
 use lib.ListN.{length}
@@ -9,8 +9,8 @@ use Rattle.answers.specs.declared.Outcome.the-variants.{Accepted}
 use Rattle.plant.specs.declared.Plant.{Plant}
 use Rattle.plant.specs.Table.{plantOf}
 use Rattle.syntax.specs.declared.Rule.{Rule}
-use Rattle.syntax.specs.Value.{formulaOf}
-use Rattle.shape.specs.Shape.{partsIn}
+use Rattle.syntax.specs.Value.{formulaOf, held, count}
+use Rattle.syntax.proofs.Values.{parts-held}
 use Rattle.truth.specs.Ready.{Ready}
 use Rattle.truth.specs.Tables.{tablesOf}
 use Rattle.truth.specs.Right.{RightTables}
@@ -27,9 +27,9 @@ module _ {p : Plant} {fair label next : List ℕ} {rule : Rule} (i : Input p fai
   pub right : RightTables (plantOf p fair label next) (formulaOf rule) (tablesOf label rule)
   right = tables-right (plantOf p fair label next) (formulaOf rule) rule (i .table) (i .is) (i .small) (i .few) (i .below)
 
-  pub parts-is : partsIn rule ≡ parts (formulaOf rule)
-  unfolding tablesOf
-  parts-is = right .count
+  -- the temporal nodes of the value are the rule's parts
+  pub parts-is : count (held rule) ≡ parts (formulaOf rule)
+  parts-is = ap (λ (r : Rule). count (held r)) (i .is) ∙ parts-held (formulaOf rule)
 
   pub ready : Ready label rule
   ready = tables-ready (plantOf p fair label next) (formulaOf rule) rule (i .table) (i .is) (i .small) (i .few)

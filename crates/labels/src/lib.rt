@@ -4,13 +4,6 @@ ghost use Prim.Native.Nat.{_≤_, _<_};
 ghost use lib.ListN.{length};
 ghost use Rattle.labels.specs.Labels.{havingOf, agreeingOf};
 
-// As a function this asks nothing; `label[s] as u64` would ask that the label fits.
-fn wide(label: u16) -> u64
-    ensures { λ r. ⌜ r ≡ label ⌝ }
-{
-    label as u64
-}
-
 // The states whose label has the proposition p.
 pub fn having(label: &[u16], p: usize) -> u64
     requires { ⌜ (length (now label) ≤ 64) × (p < 64) ⌝ }
@@ -18,7 +11,7 @@ pub fn having(label: &[u16], p: usize) -> u64
 {
     let mut found: u64 = 0;
     for s in 0..label.len() {
-        found |= words::only(words::has(wide(label[s]), p), words::single(s));
+        found |= words::only(words::has(words::wide(label[s]), p), words::single(s));
     }
     found
 }

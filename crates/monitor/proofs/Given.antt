@@ -21,9 +21,9 @@ use Rattle.answers.specs.declared.Outcome.the-variants.{Accepted, Refused}
 use Rattle.answers.specs.Chain.{andThen, unless, chain-accepts, unless-accepts}
 use Rattle.plant.specs.declared.Plant.{Plant}
 use Rattle.syntax.specs.declared.Rule.{Rule}
+use Rattle.syntax.specs.Value.{held, count}
 use Rattle.log.specs.declared.Event.{Event}
 use Rattle.log.specs.Legal.{seenOf, legalOf, legal-exactly}
-use Rattle.shape.specs.Shape.{partsIn}
 use Rattle.ways.specs.Ways.{waysOf}
 use Rattle.checks.specs.Checks.{inputOutcome, pairsFit}
 use Rattle.checks.specs.Exactly.{fit-is, join-says}
@@ -62,7 +62,7 @@ module _ (p : Plant) (fair label next : List ℕ) (rule : Rule) where
 
   module _ (i : Input p fair label next rule) where
     -- the tests of two sets of pairs, by the numbers that the code has for states and valuations
-    pub fits-are : {k s n : ℕ} {x y : Bool} (one two : List ℕ) → k ≡ partsIn rule → s ≡ 2 ^ p .states - 1 → n ≡ 2 ^ k → x ≡ pairsFit one s n → y ≡ pairsFit two s n
+    pub fits-are : {k s n : ℕ} {x y : Bool} (one two : List ℕ) → k ≡ count (held rule) → s ≡ 2 ^ p .states - 1 → n ≡ 2 ^ k → x ≡ pairsFit one s n → y ≡ pairsFit two s n
         → (x && y) ≡ (fitOf p fair label next rule one && fitOf p fair label next rule two)
     fits-are one two ek es en ex ey =
         let many = en ∙ ap (λ (j : ℕ). 2 ^ j) (ek ∙ parts-is i) in

@@ -45,7 +45,7 @@ fn check_held(
         Outcome::Refused(refusal) => Outcome::Refused(refusal),
         Outcome::Accepted => {
             let states = words::all(plant.states);
-            let count = moves::valuations(shape::parts_of(rule));
+            let count = moves::valuations(syntax::parts_of(rule));
             let fits = checks::pairs_fit(one, states, count)
                 & checks::pairs_fit(two, states, count);
             if fits {

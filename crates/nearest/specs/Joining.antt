@@ -14,12 +14,12 @@ use Rattle.words.specs.Word.{withoutOf, onlyOf}
 use Rattle.words.specs.Below.{anyBelow, listBelow, wordOf}
 use Rattle.words.specs.Laws.{bit-and, bit-or, bit-zero, bit-only, bit-single, bit-above, bit-without, same-bits}
 use Rattle.words.specs.Lowest.{lowestOf, othersOf, lowest-lt, bit-lowest, bit-others}
-use Rattle.words.specs.Lists.{entry-inside, list-at, length-list}
+use Rattle.words.specs.Lists.{list-at, length-list}
 use Rattle.words.specs.Folds.{any-found, any-of}
 use Rattle.words.specs.Unions.{bit-union, bit-wordOf, some-member, member-some}
 use Rattle.words.specs.Truth.{so-ext, and-says}
 use Rattle.pairs.specs.Post.{postOf, bit-post, post-turn}
-use Rattle.moves.specs.Back.{meets, preOf, pre-none}
+use Rattle.moves.specs.Back.{meets, preOf, bit-pre, pre-none}
 use Rattle.moves.specs.Leading.{leadingAt}
 use Rattle.leads.specs.Halves.{fromIn, toIn}
 use Rattle.sweeps.specs.Sweeps.{viaAt, moversAt}
@@ -29,15 +29,6 @@ unfoldable pub heldOf : ℕ → List ℕ → ℕ
 heldOf n set = wordOf n (λ v. not (eqb (getD set v 0) 0))
 
 -- ---- the states with a move into a target, one after another
-
--- a state has a move into the target where its entry meets it
-bit-pre : (next : List ℕ) (target s : ℕ) → bit (preOf next target) s ≡ meets next target s
-unfolding preOf
-bit-pre next target s = bit-wordOf (length next) (meets next target) s
-    ∙ so-ext _ _ (λ h. and-says (ltb s (length next)) (meets next target s) .0 h .1)
-    (λ h. let (t, b) = some-member (bitAnd (getD next s 0) target) h in
-    and-says (ltb s (length next)) (meets next target s) .1
-    (lt-ltb s (length next) (entry-inside next s t (and-says (bit (getD next s 0) t) (bit target t) .0 (rw bit-and at b) .0)), h))
 
 -- into an empty target there is no move
 pub moving-none : (next : List ℕ) (target tried : ℕ) → bitAnd (onlyOf (not (eqb target 0)) tried) (preOf next target) ≡ bitAnd tried (preOf next target)

@@ -55,12 +55,6 @@ pub struct TableRead {
     pub table: Table,
 }
 
-fn wide(x: u16) -> u64
-    ensures { λ r. ⌜ r ≡ x ⌝ }
-{
-    x as u64
-}
-
 // Whether the members of a set are below n.
 fn is_below(set: u64, n: usize) -> bool
     requires { ⌜ (1 ≤ n) × (n ≤ 64) ⌝ }
@@ -89,7 +83,7 @@ fn united_labels(labels: &[u16]) -> u64
     let mut all = 0;
     let mut at = 0;
     while at < labels.len() {
-        all |= wide(labels[at]);
+        all |= words::wide(labels[at]);
         at += 1;
     }
     all

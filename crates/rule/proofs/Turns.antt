@@ -2,13 +2,12 @@
 use Prim.Native.Nat.{ℕ, _+_, _-_, _≤_, _<_}
 use mathlib.Core.Path.{_≡_, sym, ap, _∙_}
 use mathlib.Core.List.{List, [], _∷_}
-use mathlib.Core.Bool.{Bool, true, false, _&&_, cond}
+use mathlib.Core.Bool.{Bool, true, false, _&&_}
 use native.Mathlib.Omega.{arith}
 use borrow.Author.Tests.{le-leb, lt-leb}
 use lib.Dec.{eqb}
 use Rattle.syntax.specs.declared.Op.{Op}
 use Rattle.syntax.specs.Postfix.{sides, whole}
-use Rattle.syntax.specs.Value.{isPart, count}
 use Rattle.meaning.specs.Step.{every}
 
 module _ (p : Op → Bool) {os : List Op} {b : Bool} (inv : every p os ≡ b) where
@@ -37,15 +36,3 @@ module _ {os : List Op} (d : ℕ) {b : Bool} (inv : whole os d ≡ b) where
   pub whole-ends : os ≡ [] → eqb d 1 ≡ b
   unfolding whole
   whole-ends e = sym (ap (λ l. whole l d) e) ∙ inv
-
-pub one-at-most : (b : Bool) → cond b 1 0 ≤ 1
-one-at-most true = omega arith
-one-at-most false = omega arith
-
-pub count-turn : {os ps : List Op} {o : Op} → os ≡ o ∷ ps → count os ≡ cond (isPart o) 1 0 + count ps
-unfolding count
-count-turn e = ap count e
-
-pub count-end : {os : List Op} → os ≡ [] → count os ≡ 0
-unfolding count
-count-end e = ap count e

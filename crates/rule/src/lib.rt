@@ -68,7 +68,7 @@ pub fn is_valid(rule: Rule, props: usize) -> bool
     let short = rule.len <= Rule::MAX;
     let one = value::is_whole(rule);
     let known = value::all_known(rule, props);
-    let few = value::parts_of(rule) <= Rule::PARTS;
+    let few = syntax::parts_of(rule) <= Rule::PARTS;
     let rest = value::rest_blank(rule);
     short & one & known & few & rest
 }

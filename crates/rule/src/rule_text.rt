@@ -47,7 +47,7 @@ fn within_limits(rule: Rule) -> RuleRead
     if Rule::MAX < rule.len {
         return RuleRead::refused(Kind::Nodes, 0);
     }
-    if Rule::PARTS < crate::value::parts_of(rule) {
+    if Rule::PARTS < syntax::parts_of(rule) {
         return RuleRead::refused(Kind::Parts, 0);
     }
     RuleRead {

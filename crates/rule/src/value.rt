@@ -2,9 +2,8 @@
 use syntax::Op;
 use syntax::Rule;
 ghost use mathlib.Core.Path.{_≡_};
-ghost use mathlib.Core.Bool.{cond};
 ghost use Rattle.syntax.specs.Postfix.{whole};
-ghost use Rattle.syntax.specs.Value.{held, beyond, isPart, count};
+ghost use Rattle.syntax.specs.Value.{held, beyond};
 ghost use Rattle.meaning.specs.Step.{every};
 ghost use Rattle.rule.specs.Valid.{isFalse, known};
 
@@ -47,13 +46,6 @@ fn is_false(op: Op) -> bool
     }
 }
 
-// 1 for a temporal operator.
-fn temporal_of(op: Op) -> usize
-    ensures { λ r. ⌜ r ≡ cond (isPart op) 1 0 ⌝ }
-{
-    if syntax::is_part(op) { 1 } else { 0 }
-}
-
 // Whether the nodes are those of one rule: each finds its operands, and one rule is left.
 pub fn is_whole(rule: Rule) -> bool
     ensures { λ r. ⌜ r ≡ whole (held rule) 0 ⌝ }
@@ -90,22 +82,6 @@ pub fn all_known(rule: Rule, props: usize) -> bool
         }
     }
     true
-}
-
-// How many temporal operators there are.
-pub fn parts_of(rule: Rule) -> usize
-    ensures { λ r. ⌜ r ≡ count (held rule) ⌝ }
-{
-    let len = rule.stored();
-    let mut parts: usize = 0;
-    let mut at = 0;
-    while at < len {
-        let node = rule.nodes[at];
-        let op = node.op;
-        parts += temporal_of(op);
-        at += 1;
-    }
-    parts
 }
 
 // Whether the nodes from the length on are False.

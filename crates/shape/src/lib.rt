@@ -90,16 +90,6 @@ fn counts_of(rule: Rule) -> Places
     Places { at }
 }
 
-// How many parts a rule has.
-pub fn parts_of(rule: Rule) -> usize
-    requires { ⌜ rule .len ≤ 32 ⌝ }
-    ensures { λ r. ⌜ r ≡ partsIn rule ⌝ }
-{
-    let len = rule.len;
-    let count = counts_of(rule);
-    count.at[len]
-}
-
 // The order with one more node in it, as part `at`.
 fn inserted(order: Order, at: usize, node: usize) -> Order
     ensures { λ r. ⌜ r .nodes ≡ insertedOf (order .nodes) at node ⌝ }

@@ -6,29 +6,19 @@ use mathlib.Core.Path.{_≡_, refl, sym, ap, _∙_}
 use mathlib.Core.Bool.{Bool, true, false, So, _&&_, _||_, not, false≢true}
 use mathlib.Core.List.{List}
 use lib.Bits.{bitAnd, and-le-l}
-use lib.Dec.{eqb, ltb}
-use lib.ListN.{length, getD}
+use lib.Dec.{eqb}
+use lib.ListN.{getD}
 use lib.Pow.{pow-lt}
-use borrow.Author.Tests.{lt-ltb, eqb-true, ne-eqb, not-false}
+use borrow.Author.Tests.{eqb-true, ne-eqb, not-false}
 use Rattle.meaning.specs.Bit.{bit}
 use Rattle.words.specs.Word.{withoutOf, onlyOf}
 use Rattle.words.specs.Below.{unionBelow}
 use Rattle.words.specs.Laws.{bit-and, bit-or, bit-zero, bit-only, bit-single, bit-left, same-bits}
 use Rattle.words.specs.Lowest.{lowestOf, othersOf, lowest-lt, bit-lowest, bit-others}
-use Rattle.words.specs.Lists.{entry-inside}
 use Rattle.words.specs.Folds.{any-found, any-of}
-use Rattle.words.specs.Unions.{union-more, bit-union, bit-wordOf, some-member}
+use Rattle.words.specs.Unions.{union-more, bit-union}
 use Rattle.words.specs.Truth.{so-ext, not-so, so-not-not, and-says}
-use Rattle.moves.specs.Back.{meets, preOf, pre-none}
-
--- a state is one of the target's predecessors where its entry meets the target
-bit-pre : (next : List ℕ) (target s : ℕ) → bit (preOf next target) s ≡ meets next target s
-unfolding preOf
-bit-pre next target s = bit-wordOf (length next) (meets next target) s
-    ∙ so-ext _ _ (λ h. and-says (ltb s (length next)) (meets next target s) .0 h .1)
-    (λ h. let (t, b) = some-member (bitAnd (getD next s 0) target) h in
-    and-says (ltb s (length next)) (meets next target s) .1
-    (lt-ltb s (length next) (entry-inside next s t (and-says (bit (getD next s 0) t) (bit target t) .0 (rw bit-and at b) .0)), h))
+use Rattle.moves.specs.Back.{meets, preOf, bit-pre, pre-none}
 
 -- `rest` is what of `within` is not gone
 pub record Left (within gone rest : ℕ) : Type 0 where

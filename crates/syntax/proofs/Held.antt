@@ -15,16 +15,12 @@ use denote.Struct.Field.{array-field}
 use Rattle.syntax.specs.declared.Op.{Op}
 use Rattle.syntax.specs.declared.Node.{Node}
 use Rattle.syntax.specs.declared.Rule.{Rule}
-use Rattle.syntax.specs.Value.{blank, opsOf, stored, held}
+use Rattle.syntax.specs.Value.{blank, opAt, opsOf, stored, held, isPart, count}
 use Rattle.syntax.proofs.Node.{the-field}
 
 -- a rule's array has 32 nodes: a parameter that is a rule tells it by `c .good`
 pub full : (ns : List Node) {vs : List Val} → Is (array-field the-field 32 .row) (map (the-field .into) ns) vs → length ns ≡ 32
 full ns is = sym (length-map ns (the-field .into)) ∙ is .1 .0 .1
-
--- the node at i
-abbrev pub opAt : List Node → ℕ → Op
-opAt ns i = getD ns i blank .op
 
 module _ (ns : List Node) where
   pub ops-turn : (i : ℕ) → i < length ns → opsOf (drop i ns) ≡ opAt ns i ∷ opsOf (drop (i + 1) ns)
@@ -66,3 +62,16 @@ module _ (r : Rule) (is : length (r .nodes) ≡ 32) where
       let few = stored-few r in
       let e = length-take-le (stored r) (r .nodes) (omega arith) in
       ops-end (take (stored r) (r .nodes)) i (omega arith)
+
+-- a node among those that are counted
+pub one-at-most : (b : Bool) → cond b 1 0 ≤ 1
+one-at-most true = omega arith
+one-at-most false = omega arith
+
+pub count-turn : {os ps : List Op} {o : Op} → os ≡ o ∷ ps → count os ≡ cond (isPart o) 1 0 + count ps
+unfolding count
+count-turn e = ap count e
+
+pub count-end : {os : List Op} → os ≡ [] → count os ≡ 0
+unfolding count
+count-end e = ap count e

@@ -3,7 +3,7 @@ use Prim.Native.Nat.{ℕ, _+_, _-_}
 use mathlib.Core.List.{List, [], _∷_, _++_}
 use mathlib.Core.Bool.{Bool, true, false, cond}
 use lib.Dec.{ltb}
-use lib.ListN.{take, drop, replicate}
+use lib.ListN.{getD, take, drop, replicate}
 use Rattle.meaning.specs.Formula.{Formula, never, size}
 use Rattle.syntax.specs.declared.Op.{Op}
 use Rattle.syntax.specs.declared.Op.the-variants.{False, True, Prop, Not, Next, Finally, Globally, Until, Release, And, Or, Implies}
@@ -14,6 +14,10 @@ use Rattle.syntax.specs.Postfix.{postfix, decode}
 -- what stands where no node does
 abbrev pub blank : Node
 blank = record { op = False }
+
+-- the operator of the node at i
+abbrev pub opAt : List Node → ℕ → Op
+opAt nodes i = getD nodes i blank .op
 
 abbrev pub emptyRule : Rule
 emptyRule = record { len = 0; nodes = replicate 32 blank }

@@ -1,10 +1,11 @@
 // Rules as values, and the types and tables that reading, scanning and printing their texts share.
 ghost use mathlib.Core.Path.{_≡_};
+ghost use mathlib.Core.Bool.{cond};
 ghost use Prim.Native.Nat.{_≤_};
 ghost use lib.ListN.{length, getD};
 ghost use Rattle.syntax.specs.Bytes.{signOf, digitOf, goesOn, NameAt};
 ghost use Rattle.syntax.specs.Postfix.{sides};
-ghost use Rattle.syntax.specs.Value.{emptyRule, stored, isPart};
+ghost use Rattle.syntax.specs.Value.{emptyRule, stored, held, isPart, count};
 
 pub enum Op {
     False,
@@ -266,4 +267,27 @@ pub fn is_part(op: Op) -> bool
         Op::Or => false,
         Op::Implies => false,
     }
+}
+
+// 1 for a temporal part.
+fn temporal_of(op: Op) -> usize
+    ensures { λ r. ⌜ r ≡ cond (isPart op) 1 0 ⌝ }
+{
+    if is_part(op) { 1 } else { 0 }
+}
+
+// How many temporal parts a rule has.
+pub fn parts_of(rule: Rule) -> usize
+    ensures { λ r. ⌜ r ≡ count (held rule) ⌝ }
+{
+    let len = rule.stored();
+    let mut parts: usize = 0;
+    let mut at = 0;
+    while at < len {
+        let node = rule.nodes[at];
+        let op = node.op;
+        parts += temporal_of(op);
+        at += 1;
+    }
+    parts
 }

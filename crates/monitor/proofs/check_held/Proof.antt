@@ -6,7 +6,7 @@ use Rattle.answers.specs.declared.Kind.the-variants.{Value}
 use Rattle.answers.specs.Chain.{first-refuses, first-passes, test-passes, test-fails}
 use Rattle.syntax.proofs.Held.{full}
 use Rattle.monitor.specs.Checked.{heldOf}
-use Rattle.checks.proofs.Given.{accepted, ready}
+use Rattle.checks.proofs.Given.{accepted, parts-is}
 use Rattle.monitor.proofs.Given.{fits-are}
 use Rattle.monitor.proofs.check_held.Statement.{statement}
 use Rattle.monitor.proofs.check_held.Tie as tie
@@ -19,21 +19,13 @@ all-requires c κs =
     let i = accepted (a .plant) (a .fair .now) (a .label .now) (a .next .now) (a .rule) (full (a .rule .nodes) (start .good .1 .1 .1 .1 .0 .1 .1 .1 .0)) (told .check-input .ensures) (c .enum-told .given .1) in
     (i .table .some-states, i .table .few-states)
 
-parts-of-requires : tie.Need-parts-of-requires
-parts-of-requires c κs =
-    let told = c .before .before .before in
-    let start = told .before .before .before .before in
-    let a = start .args in
-    let i = accepted (a .plant) (a .fair .now) (a .label .now) (a .next .now) (a .rule) (full (a .rule .nodes) (start .good .1 .1 .1 .1 .0 .1 .1 .1 .0)) (told .check-input .ensures) (c .before .enum-told .given .1) in
-    ready i .long
-
 valuations-requires : tie.Need-valuations-requires
 valuations-requires c κs =
     let told = c .before .before .before .before in
     let start = told .before .before .before .before in
     let a = start .args in
     let i = accepted (a .plant) (a .fair .now) (a .label .now) (a .next .now) (a .rule) (full (a .rule .nodes) (start .good .1 .1 .1 .1 .0 .1 .1 .1 .0)) (told .check-input .ensures) (c .before .before .enum-told .given .1) in
-    omega (arith, c .parts-of .ensures, ready i .few)
+    omega (arith, c .parts-of .ensures, parts-is i, i .few)
 
 returns : tie.Need-returns
 unfolding heldOf
@@ -65,4 +57,4 @@ returns-3 c =
 
 pub check-held-spec : {M : Type 1} → statement M
 check-held-spec =
-    tie.close (tie.spec (λ c κs. search needs) (λ c. search needs) (λ c. search needs) all-requires parts-of-requires valuations-requires (λ c κs. search needs) (λ c κs. search needs) returns (λ c κs. search needs) returns-2 returns-3)
+    tie.close (tie.spec (λ c κs. search needs) (λ c. search needs) (λ c. search needs) all-requires (λ c κs. search needs) valuations-requires (λ c κs. search needs) (λ c κs. search needs) returns (λ c κs. search needs) returns-2 returns-3)

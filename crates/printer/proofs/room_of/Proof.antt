@@ -3,8 +3,8 @@ use Prim.Native.Nat.{_+_, _-_, _*_, _≤_}
 use mathlib.Core.Path.{_≡_, ap}
 use native.Mathlib.Omega.{arith}
 use borrow.Author.Needs.{needs}
-use Rattle.syntax.specs.Value.{stored, held}
-use Rattle.syntax.proofs.Held.{full, opAt, heldFrom, stored-few, held-start, held-turn, held-end}
+use Rattle.syntax.specs.Value.{opAt, stored, held}
+use Rattle.syntax.proofs.Held.{full, heldFrom, stored-few, held-start, held-turn, held-end}
 use Rattle.printer.specs.Tell.{shares}
 use Rattle.printer.proofs.Printing.{share-few, shares-turn, shares-end}
 use Rattle.printer.proofs.room_of.Statement.{statement}

@@ -4,8 +4,8 @@ use mathlib.Core.Path.{_≡_, sym, ap, _∙_}
 use mathlib.Core.List.{_∷_}
 use native.Mathlib.Omega.{arith}
 use borrow.Author.Needs.{needs}
-use Rattle.syntax.specs.Value.{held}
-use Rattle.syntax.proofs.Held.{full, opAt, heldFrom, stored-few, held-start, held-turn, held-end}
+use Rattle.syntax.specs.Value.{opAt, held}
+use Rattle.syntax.proofs.Held.{full, heldFrom, stored-few, held-start, held-turn, held-end}
 use Rattle.meaning.specs.Step.{every}
 use Rattle.rule.specs.Valid.{known}
 use Rattle.rule.proofs.Turns.{every-on, every-stops, every-ends}

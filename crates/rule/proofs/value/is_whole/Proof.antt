@@ -5,8 +5,8 @@ use mathlib.Core.List.{_∷_}
 use native.Mathlib.Omega.{arith}
 use borrow.Author.Needs.{needs}
 use Rattle.syntax.specs.Postfix.{whole}
-use Rattle.syntax.specs.Value.{held}
-use Rattle.syntax.proofs.Held.{full, opAt, heldFrom, stored-few, held-start, held-turn, held-end}
+use Rattle.syntax.specs.Value.{opAt, held}
+use Rattle.syntax.proofs.Held.{full, heldFrom, stored-few, held-start, held-turn, held-end}
 use Rattle.rule.proofs.Turns.{whole-on, whole-stops, whole-ends}
 use Rattle.rule.proofs.value.is_whole.Statement.{statement}
 use Rattle.rule.proofs.value.is_whole.Tie as tie

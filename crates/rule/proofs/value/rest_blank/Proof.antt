@@ -5,8 +5,8 @@ use mathlib.Core.List.{_∷_}
 use native.Mathlib.Omega.{arith}
 use borrow.Author.Needs.{needs}
 use lib.ListN.{drop}
-use Rattle.syntax.specs.Value.{opsOf, beyond}
-use Rattle.syntax.proofs.Held.{full, opAt, ops-turn, ops-end}
+use Rattle.syntax.specs.Value.{opAt, opsOf, beyond}
+use Rattle.syntax.proofs.Held.{full, ops-turn, ops-end}
 use Rattle.meaning.specs.Step.{every}
 use Rattle.rule.specs.Valid.{isFalse}
 use Rattle.rule.proofs.Turns.{every-on, every-stops, every-ends}

@@ -1,13 +1,12 @@
--- `rule::value::parts_of` meets its contract. The loop's invariant: what is counted and what the nodes ahead have are what all have. Assumes nothing.
+-- `syntax::parts_of` meets its contract. The loop's invariant: what is counted and what the nodes ahead have are what all have. Assumes nothing.
 use Prim.Native.Nat.{_+_, _-_, _≤_}
 use mathlib.Core.Path.{_≡_, ap}
 use native.Mathlib.Omega.{arith}
 use borrow.Author.Needs.{needs}
-use Rattle.syntax.specs.Value.{held, isPart, count}
-use Rattle.syntax.proofs.Held.{full, opAt, heldFrom, stored-few, held-start, held-turn, held-end}
-use Rattle.rule.proofs.Turns.{one-at-most, count-turn, count-end}
-use Rattle.rule.proofs.value.parts_of.Statement.{statement}
-use Rattle.rule.proofs.value.parts_of.Tie as tie
+use Rattle.syntax.specs.Value.{opAt, held, isPart, count}
+use Rattle.syntax.proofs.Held.{full, heldFrom, stored-few, held-start, held-turn, held-end, one-at-most, count-turn, count-end}
+use Rattle.syntax.proofs.parts_of.Statement.{statement}
+use Rattle.syntax.proofs.parts_of.Tie as tie
 
 abbrev Inv-loop : tie.InvT-loop
 Inv-loop rule len parts₀ at₀ parts at = (at ≤ len) × (parts ≤ at) × (parts + count (heldFrom rule at) ≡ count (held rule))
