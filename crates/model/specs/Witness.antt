@@ -16,7 +16,7 @@ use Rattle.meaning.specs.Run.{Plant, Lasso, FairLasso}
 use Rattle.meaning.specs.Event.{History, now}
 use Rattle.meaning.specs.Pair.{PairAt, Live}
 use Rattle.meaning.specs.Verdict.{Chosen}
-use Rattle.meaning.specs.Limits.{AcceptedTable, Small}
+use Rattle.meaning.specs.Limits.{AcceptedTable, Small, mostStem, mostLoop}
 use Rattle.theory.specs.Join.{after}
 use Rattle.theory.specs.Node.{node, edge, goals}
 use Rattle.theory.specs.Sound.{ringStates, ring-fair, ring-pair}
@@ -36,8 +36,8 @@ pub record Witness (T : Plant) (f : Formula) (set : List ℕ) (L : Lasso) : Type
   pub held : So (inside set state values)
   pub walk : FairLasso T L
   pub pair : PairAt T f L 0 state values
-  pub stem : length (L .stem) ≤ 4095
-  pub loop : length (L .loop) ≤ 45056
+  pub stem : length (L .stem) ≤ mostStem
+  pub loop : length (L .loop) ≤ mostLoop
 
 -- whether the set has a live pair: where it has none, the call refuses with 13
 unfoldable pub hasLive : Plant → Formula → List ℕ → Bool
@@ -69,7 +69,7 @@ module _ (T : Plant) (f : Formula) (A : AcceptedTable T) (small : Small f) where
 
   -- a lasso of pairs, as code walks it in the live set: its states are a witness
   pub ring-witness : (set : List ℕ) (s v : ℕ) (xs ys : List ℕ) → So (inside set s v) → So (inside (liveSet T f) s v)
-      → Ring (edge T f) (goals T f) (nodesOf (liveSet T f)) (node s v) xs ys → length xs ≤ 4095 → length ys ≤ 45056 → Witness T f set (ringStates xs ys)
+      → Ring (edge T f) (goals T f) (nodesOf (liveSet T f)) (node s v) xs ys → length xs ≤ mostStem → length ys ≤ mostLoop → Witness T f set (ringStates xs ys)
   ring-witness set s v xs ys held live l stem loop =
       let low : s < 64 = (let h = live-set T f A small .range s v live .0 in let k = A .few-states in omega arith) in
       let r = lasso-widen (nodes-valid (live-set T f A small)) l in

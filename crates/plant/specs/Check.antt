@@ -13,7 +13,7 @@ use lib.Dec.{leb, ltb}
 use lib.ListN.{length, getD}
 use lib.Pow.{pow-pos, shr-shr}
 use Rattle.meaning.specs.Bit.{bit}
-use Rattle.meaning.specs.Limits.{mostProps, Sets, AcceptedTable}
+use Rattle.meaning.specs.Limits.{mostProps, Sets, AcceptedTable, mostStates, mostFair}
 use Rattle.text.specs.Cases.{below-or-beyond}
 use Rattle.words.specs.Below.{unionBelow}
 use Rattle.words.specs.Truth.{and-says}
@@ -87,8 +87,8 @@ counts-exactly p fair label next = (there, back)
             some-props = leb-true 1 (p .props) some-props;
             props = leb-true (p .props) mostProps few-props;
             some-states = leb-true 1 (p .states) some-states;
-            states = leb-true (p .states) 64 few-states;
-            just = leb-true (p .just) 4 few-just;
+            states = leb-true (p .states) mostStates few-states;
+            just = leb-true (p .just) mostFair few-just;
           };
           fairs = eqb-true fair (p .just) fairs;
           labels = eqb-true label (p .states) labels;
@@ -102,9 +102,9 @@ counts-exactly p fair label next = (there, back)
           and-says _ _ .1 (
             and-says _ _ .1 (
               and-says _ _ .1 (le-leb 1 (p .props) (c .some-props), le-leb (p .props) mostProps (c .props)),
-              and-says _ _ .1 (le-leb 1 (p .states) (c .some-states), le-leb (p .states) 64 (c .states)),
+              and-says _ _ .1 (le-leb 1 (p .states) (c .some-states), le-leb (p .states) mostStates (c .states)),
             ),
-            and-says _ _ .1 (le-leb (p .just) 4 (c .just), eq-eqb fair (p .just) (s .fairs)),
+            and-says _ _ .1 (le-leb (p .just) mostFair (c .just), eq-eqb fair (p .just) (s .fairs)),
           ),
           and-says _ _ .1 (eq-eqb label (p .states) (s .labels), eq-eqb next (p .states) (s .nexts)),
         )

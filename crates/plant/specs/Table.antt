@@ -7,7 +7,7 @@ use lib.Bits.{bitOr}
 use lib.Dec.{eqb, leb, ltb}
 use lib.ListN.{length, getD}
 use Rattle.meaning.specs.Bit.{bit}
-use Rattle.meaning.specs.Limits.{mostProps}
+use Rattle.meaning.specs.Limits.{mostProps, mostStates, mostFair}
 use Rattle.meaning.specs.Run as run
 use Rattle.words.specs.Below.{unionBelow}
 use Rattle.answers.specs.declared.Kind.the-variants.{Counts, Bits}
@@ -25,7 +25,7 @@ plantOf p fair label next = record { props = p .props; states = p .states; start
 -- the counts are in range, and the parts have their lengths
 abbrev pub countsOf : Plant → ℕ → ℕ → ℕ → Bool
 countsOf p fair label next =
-    (((leb 1 (p .props) && leb (p .props) mostProps) && (leb 1 (p .states) && leb (p .states) 64)) && (leb (p .just) 4 && eqb fair (p .just)))
+    (((leb 1 (p .props) && leb (p .props) mostProps) && (leb 1 (p .states) && leb (p .states) mostStates)) && (leb (p .just) mostFair && eqb fair (p .just)))
     && (eqb label (p .states) && eqb next (p .states))
 
 -- the union of all sets of a list
@@ -49,8 +49,8 @@ pub record InRange (p : Plant) : Type 0 where
   pub some-props : 1 ≤ p .props
   pub props : p .props ≤ mostProps
   pub some-states : 1 ≤ p .states
-  pub states : p .states ≤ 64
-  pub just : p .just ≤ 4
+  pub states : p .states ≤ mostStates
+  pub just : p .just ≤ mostFair
 
 -- and the lent parts have their lengths
 pub record Lengths (p : Plant) (fair label next : ℕ) : Type 0 where

@@ -4,7 +4,7 @@ use mathlib.Core.Path.{_≡_, refl, ap}
 use mathlib.Core.List.{List, [], _++_}
 use lib.ListN.{length, getD}
 use Rattle.meaning.specs.Run.{Plant}
-use Rattle.meaning.specs.Limits.{mostProps}
+use Rattle.meaning.specs.Limits.{mostProps, mostStates, mostFair}
 use Rattle.text.specs.Slot.{Slot, word}
 use Rattle.text.specs.Number.{widthOf, hexSlots, countSlots}
 use Rattle.text.specs.Form.{Form, led, ended, both, seen}
@@ -17,9 +17,9 @@ use Rattle.plant.specs.Text.{tableForm, field, row, lf, keySlots, propsK
 -- counts in their ranges, a label and a set of next states for each state, sets of 16 digits and labels of 2 or 4
 pub record WellFormed (t : Plant) : Type 0 where
   pub props : (1 ≤ t .props) × (t .props ≤ mostProps)
-  pub states : (1 ≤ t .states) × (t .states ≤ 64)
+  pub states : (1 ≤ t .states) × (t .states ≤ mostStates)
   pub start : t .start < 16 ^ 16
-  pub few-fair : length (t .fair) ≤ 4
+  pub few-fair : length (t .fair) ≤ mostFair
   pub fair : (k : ℕ) → k < length (t .fair) → getD (t .fair) k 0 < 16 ^ 16
   pub labels : length (t .label) ≡ t .states
   pub nexts : length (t .next) ≡ t .states

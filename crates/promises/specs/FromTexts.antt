@@ -8,7 +8,7 @@ use lib.Dec.{ltb}
 use lib.ListN.{length, getD}
 use Rattle.meaning.specs.Formula.{Formula}
 use Rattle.meaning.specs.Run as run
-use Rattle.meaning.specs.Limits.{AcceptedTable}
+use Rattle.meaning.specs.Limits.{AcceptedTable, mostNodes, mostParts}
 use Rattle.text.specs.Number.{widthOf}
 use Rattle.text.specs.Written.{smallOf}
 use Rattle.text.specs.Place.{Fills}
@@ -32,6 +32,7 @@ use Rattle.syntax.specs.declared.Scan.the-variants.{Good, Bad}
 use Rattle.syntax.specs.Reader.{parse}
 use Rattle.syntax.specs.Scan.{scan}
 use Rattle.syntax.specs.Value.{ruleOf, emptyRule, held, count}
+use Rattle.syntax.specs.Grammar.{longestRule}
 use Rattle.reader.specs.Draft as reader
 use Rattle.rule.specs.declared.RuleRead.{RuleRead}
 use Rattle.rule.specs.declared.Found.{Found}
@@ -166,8 +167,8 @@ by-name (At i) x a = refuses Proposition i
 by-name Nowhere x a = a
 
 answer : (p : Plant) (fair label next s : List ℕ) → Answer (ruleRead p fair label next s)
-answer p fair label next s = by-table (tableOutcome p fair label next) _ (either (ltb 512 (length s)) _ _ (refuses RuleLength 512) (by-scan (scan s) _ (by-name (unknownAt (p .props) 0 s) _
-    (either (ltb 32 (r .len)) _ _ (refuses Nodes 0) (either (ltb 6 (count (held r))) _ _ (refuses Parts 0) (gives r))))))
+answer p fair label next s = by-table (tableOutcome p fair label next) _ (either (ltb longestRule (length s)) _ _ (refuses RuleLength longestRule) (by-scan (scan s) _ (by-name (unknownAt (p .props) 0 s) _
+    (either (ltb mostNodes (r .len)) _ _ (refuses Nodes 0) (either (ltb mostParts (count (held r))) _ _ (refuses Parts 0) (gives r))))))
   where
     r : Rule
     r = reader.written emptyRule (parse s)

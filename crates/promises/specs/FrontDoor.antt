@@ -11,7 +11,7 @@ use lib.ListN.{length, getD, take}
 use Rattle.meaning.specs.Formula.{Formula, size, parts}
 use Rattle.meaning.specs.Run.{Plant}
 use Rattle.meaning.specs.Event.{since}
-use Rattle.meaning.specs.Limits.{AcceptedTable, Legal}
+use Rattle.meaning.specs.Limits.{AcceptedTable, Legal, mostNodes, mostParts}
 use Rattle.text.specs.Number.{widthOf}
 use Rattle.text.specs.Written.{smallOf}
 use Rattle.text.specs.Place.{RefusedAt}
@@ -25,7 +25,7 @@ use Rattle.plant.specs.Table.{BitBeyond}
 use Rattle.plant.specs.Text.{tableForm}
 use Rattle.plant.specs.Read.{countsIn}
 use Rattle.plant.specs.Written.{WellFormed, tableSlots, tableText}
-use Rattle.syntax.specs.Grammar.{SaidBy}
+use Rattle.syntax.specs.Grammar.{longestRule, SaidBy}
 use Rattle.syntax.specs.Print.{Below}
 use Rattle.rule.specs.Paper.{Because}
 use Rattle.log.specs.declared.Event.{Event}
@@ -53,10 +53,10 @@ pub record SaysRule (rule : File) (q : ℕ) (f : Formula) : Type 0 where
   pub text : List ℕ
   pub is : (rule ≡ bytes text) ⊎ (rule ≡ bytes (text ++ lf))
   pub said : SaidBy f text
-  pub short : length text ≤ 512
+  pub short : length text ≤ longestRule
   pub below : Below q f
-  pub small : size f ≤ 32
-  pub few : parts f ≤ 6
+  pub small : size f ≤ mostNodes
+  pub few : parts f ≤ mostParts
 
 -- log.txt says the events es, in lines for q propositions: its text is, the digits made small, the one written for them
 pub record SaysLog (log : File) (q : ℕ) (es : List Event) : Type 0 where

@@ -12,6 +12,7 @@ use Rattle.plant.specs.Table.{tableOutcome}
 use Rattle.plant.specs.Check as table
 use Rattle.syntax.specs.declared.Rule.{Rule}
 use Rattle.syntax.specs.Value.{ruleOf}
+use Rattle.syntax.specs.Grammar.{longestRule}
 use Rattle.rule.specs.declared.RuleRead.{RuleRead}
 use Rattle.rule.specs.Reading.{noRule, accepted, textRead, ofTable, ruleRead}
 use Rattle.rule.specs.Paper.{Beside, Takes, Because, counts, bits, too-long, no-text, unknown, too-large, too-many}

@@ -7,6 +7,7 @@ use native.Mathlib.Omega.{arith}
 use borrow.Author.Tests.{eq-eqb, ne-eqb, lt-ltb, le-ltb}
 use lib.Dec.{eqb, leb}
 use lib.ListN.{length, getD, drop}
+use Rattle.meaning.specs.Limits.{mostNodes, mostParts}
 use Rattle.answers.specs.declared.Kind.the-variants.{RuleLength, RuleText, Proposition, Nodes, Parts}
 use Rattle.answers.specs.declared.Outcome.{Outcome}
 use Rattle.plant.specs.declared.Plant.{Plant}
@@ -18,6 +19,7 @@ use Rattle.syntax.specs.Reader.{parse}
 use Rattle.syntax.specs.Scan.{scan}
 use Rattle.syntax.specs.Value.{emptyRule, held, count}
 use Rattle.syntax.proofs.Places.{byte, at-end}
+use Rattle.syntax.specs.Grammar.{longestRule}
 use Rattle.reader.specs.Draft.{written}
 use Rattle.rule.specs.declared.Found.the-variants.{At, Nowhere}
 use Rattle.rule.specs.Reading.{noRule, accepted, unknown, unknownAt, limited, ofFound, named, ofScan, textRead, ofTable, ruleRead}
@@ -47,14 +49,14 @@ module _ (q : ℕ) (s : List ℕ) (i : ℕ) where
   unknown-none h g = ap (unknownAt q i) (at-end s i h g)
 
 module _ (r : Rule) where
-  pub limited-long : 32 < r .len → limited r ≡ noRule Nodes 0
-  limited-long h = simp (lt-ltb 32 (r .len) h)
+  pub limited-long : mostNodes < r .len → limited r ≡ noRule Nodes 0
+  limited-long h = simp (lt-ltb mostNodes (r .len) h)
 
-  pub limited-many : r .len ≤ 32 → 6 < count (held r) → limited r ≡ noRule Parts 0
-  limited-many h g = simp (le-ltb 32 (r .len) h, lt-ltb 6 (count (held r)) g)
+  pub limited-many : r .len ≤ mostNodes → mostParts < count (held r) → limited r ≡ noRule Parts 0
+  limited-many h g = simp (le-ltb mostNodes (r .len) h, lt-ltb mostParts (count (held r)) g)
 
-  pub limited-fine : r .len ≤ 32 → count (held r) ≤ 6 → limited r ≡ accepted r
-  limited-fine h g = simp (le-ltb 32 (r .len) h, le-ltb 6 (count (held r)) g)
+  pub limited-fine : r .len ≤ mostNodes → count (held r) ≤ mostParts → limited r ≡ accepted r
+  limited-fine h g = simp (le-ltb mostNodes (r .len) h, le-ltb mostParts (count (held r)) g)
 
 module _ (s : List ℕ) (q : ℕ) where
   pub named-unknown : (k : ℕ) → unknownAt q 0 s ≡ At k → named s q ≡ noRule Proposition k
@@ -63,14 +65,14 @@ module _ (s : List ℕ) (q : ℕ) where
   pub named-fine : unknownAt q 0 s ≡ Nowhere → named s q ≡ limited (written emptyRule (parse s))
   named-fine e = ap (ofFound (limited (written emptyRule (parse s)))) e
 
-  pub read-long : 512 < length s → textRead s q ≡ noRule RuleLength 512
-  read-long h = simp (lt-ltb 512 (length s) h)
+  pub read-long : longestRule < length s → textRead s q ≡ noRule RuleLength longestRule
+  read-long h = simp (lt-ltb longestRule (length s) h)
 
-  pub read-bad : (k : ℕ) → length s ≤ 512 → scan s ≡ Bad k → textRead s q ≡ noRule RuleText k
-  read-bad k h e = ap (λ b. cond b (noRule RuleLength 512) (ofScan (named s q) (scan s))) (le-ltb 512 (length s) h) ∙ ap (ofScan (named s q)) e
+  pub read-bad : (k : ℕ) → length s ≤ longestRule → scan s ≡ Bad k → textRead s q ≡ noRule RuleText k
+  read-bad k h e = ap (λ b. cond b (noRule RuleLength longestRule) (ofScan (named s q) (scan s))) (le-ltb longestRule (length s) h) ∙ ap (ofScan (named s q)) e
 
-  pub read-good : length s ≤ 512 → scan s ≡ Good → textRead s q ≡ named s q
-  read-good h e = ap (λ b. cond b (noRule RuleLength 512) (ofScan (named s q) (scan s))) (le-ltb 512 (length s) h) ∙ ap (ofScan (named s q)) e
+  pub read-good : length s ≤ longestRule → scan s ≡ Good → textRead s q ≡ named s q
+  read-good h e = ap (λ b. cond b (noRule RuleLength longestRule) (ofScan (named s q) (scan s))) (le-ltb longestRule (length s) h) ∙ ap (ofScan (named s q)) e
 
 -- what the table's check answered decides
 pub by-table : (p : Plant) (fair label next s : List ℕ) {t x : Outcome} → t ≡ tableOutcome p fair label next → t ≡ x → ofTable (textRead s (p .props)) x ≡ ruleRead p fair label next s

@@ -11,10 +11,11 @@ use Rattle.answers.specs.declared.Kind.{Kind}
 use Rattle.answers.specs.Chain.{isAccepted}
 use Rattle.answers.specs.declared.Kind.the-variants.{RuleLength, RuleText, Proposition, Nodes, Parts}
 use Rattle.meaning.specs.Formula.{Formula, size, parts}
+use Rattle.meaning.specs.Limits.{mostNodes, mostParts}
 use Rattle.syntax.specs.declared.Rule.{Rule}
 use Rattle.syntax.specs.declared.Scan.{Scan}
 use Rattle.syntax.specs.declared.Scan.the-variants.{Good, Bad}
-use Rattle.syntax.specs.Grammar.{SaidBy, Refused, Unknown}
+use Rattle.syntax.specs.Grammar.{longestRule, SaidBy, Refused, Unknown}
 use Rattle.syntax.specs.Postfix.{postfix}
 use Rattle.syntax.specs.Print.{Below}
 use Rattle.syntax.specs.Scan.{scan}
@@ -37,13 +38,13 @@ refusal-none kind k r e = subst T (ap (λ a. isAccepted (a .outcome)) (sym e)) t
 
 -- the limits, by the rule
 module _ (f : Formula) where
-  limits-size : 32 < size f → limited (written emptyRule (postfix f)) ≡ noRule Nodes 0
+  limits-size : mostNodes < size f → limited (written emptyRule (postfix f)) ≡ noRule Nodes 0
   limits-size h = limited-long (written emptyRule (postfix f)) (omega (arith, written-over f h))
 
-  limits-parts : size f ≤ 32 → 6 < parts f → limited (written emptyRule (postfix f)) ≡ noRule Parts 0
+  limits-parts : size f ≤ mostNodes → mostParts < parts f → limited (written emptyRule (postfix f)) ≡ noRule Parts 0
   limits-parts h g = ap limited (written-rule f h) ∙ limited-many (ruleOf f) h (omega (arith, parts-held f))
 
-  limits-fine : size f ≤ 32 → parts f ≤ 6 → limited (written emptyRule (postfix f)) ≡ accepted (ruleOf f)
+  limits-fine : size f ≤ mostNodes → parts f ≤ mostParts → limited (written emptyRule (postfix f)) ≡ accepted (ruleOf f)
   limits-fine h g = ap limited (written-rule f h) ∙ limited-fine (ruleOf f) h (omega (arith, parts-held f))
 
 -- the scanner is good on a text of the grammar
@@ -55,10 +56,10 @@ good {f} {s} r = go (scan s) refl
     go (Bad k) e = absurd ((rw e at (scanned s)) .outside f r)
 
 module _ (q : ℕ) (s : List ℕ) where
-  pub reads-long : 512 < length s → textRead s q ≡ noRule RuleLength 512
+  pub reads-long : longestRule < length s → textRead s q ≡ noRule RuleLength longestRule
   reads-long h = read-long s q h
 
-  module _ (short : length s ≤ 512) where
+  module _ (short : length s ≤ longestRule) where
     pub reads-none : (k : ℕ) → Refused s k → textRead s q ≡ noRule RuleText k
     reads-none k r = go (scan s) refl
       where
@@ -78,51 +79,51 @@ module _ (q : ℕ) (s : List ℕ) where
       reads-known : textRead s q ≡ limited (written emptyRule (postfix f))
       reads-known = read-good s q short (good says) ∙ named-fine s q (below-exactly q says .1 below) ∙ ap (λ os. limited (written emptyRule os)) (parsed says)
 
-      pub reads-large : 32 < size f → textRead s q ≡ noRule Nodes 0
+      pub reads-large : mostNodes < size f → textRead s q ≡ noRule Nodes 0
       reads-large h = reads-known ∙ limits-size f h
 
-      pub reads-many : size f ≤ 32 → 6 < parts f → textRead s q ≡ noRule Parts 0
+      pub reads-many : size f ≤ mostNodes → mostParts < parts f → textRead s q ≡ noRule Parts 0
       reads-many h g = reads-known ∙ limits-parts f h g
 
-      pub reads-rule : size f ≤ 32 → parts f ≤ 6 → textRead s q ≡ accepted (ruleOf f)
+      pub reads-rule : size f ≤ mostNodes → parts f ≤ mostParts → textRead s q ≡ accepted (ruleOf f)
       reads-rule h g = reads-known ∙ limits-fine f h g
 
 -- one of these always is the case
 pub data Judged (q : ℕ) (s : List ℕ) : Type 0 where
-  too-long : 512 < length s → Judged q s
-  no-text : (k : ℕ) → length s ≤ 512 → Refused s k → Judged q s
-  unknown-name : (f : Formula) (k : ℕ) → length s ≤ 512 → SaidBy f s → Unknown q s k → Judged q s
-  too-large : (f : Formula) → length s ≤ 512 → SaidBy f s → Below q f → 32 < size f → Judged q s
-  too-many : (f : Formula) → length s ≤ 512 → SaidBy f s → Below q f → size f ≤ 32 → 6 < parts f → Judged q s
-  a-rule : (f : Formula) → length s ≤ 512 → SaidBy f s → Below q f → size f ≤ 32 → parts f ≤ 6 → Judged q s
+  too-long : longestRule < length s → Judged q s
+  no-text : (k : ℕ) → length s ≤ longestRule → Refused s k → Judged q s
+  unknown-name : (f : Formula) (k : ℕ) → length s ≤ longestRule → SaidBy f s → Unknown q s k → Judged q s
+  too-large : (f : Formula) → length s ≤ longestRule → SaidBy f s → Below q f → mostNodes < size f → Judged q s
+  too-many : (f : Formula) → length s ≤ longestRule → SaidBy f s → Below q f → size f ≤ mostNodes → mostParts < parts f → Judged q s
+  a-rule : (f : Formula) → length s ≤ longestRule → SaidBy f s → Below q f → size f ≤ mostNodes → parts f ≤ mostParts → Judged q s
 
 pub judged : (q : ℕ) → 1 ≤ q → (s : List ℕ) → Judged q s
-judged q some s = on-length (ltb 512 (length s)) refl
+judged q some s = on-length (ltb longestRule (length s)) refl
   where
-    on-limits : length s ≤ 512 → (f : Formula) → SaidBy f s → Below q f → (b c : Bool) → ltb 32 (size f) ≡ b → ltb 6 (parts f) ≡ c → Judged q s
-    on-limits h f says below true c e d = too-large f h says below (ltb-true 32 (size f) e)
-    on-limits h f says below false true e d = too-many f h says below (ltb-false 32 (size f) e) (ltb-true 6 (parts f) d)
-    on-limits h f says below false false e d = a-rule f h says below (ltb-false 32 (size f) e) (ltb-false 6 (parts f) d)
+    on-limits : length s ≤ longestRule → (f : Formula) → SaidBy f s → Below q f → (b c : Bool) → ltb mostNodes (size f) ≡ b → ltb mostParts (parts f) ≡ c → Judged q s
+    on-limits h f says below true c e d = too-large f h says below (ltb-true mostNodes (size f) e)
+    on-limits h f says below false true e d = too-many f h says below (ltb-false mostNodes (size f) e) (ltb-true mostParts (parts f) d)
+    on-limits h f says below false false e d = a-rule f h says below (ltb-false mostNodes (size f) e) (ltb-false mostParts (parts f) d)
 
-    on-names : length s ≤ 512 → (f : Formula) → SaidBy f s → (x : Found) → unknownAt q 0 s ≡ x → Judged q s
+    on-names : length s ≤ longestRule → (f : Formula) → SaidBy f s → (x : Found) → unknownAt q 0 s ≡ x → Judged q s
     on-names h f says (At k) e = unknown-name f k h says (first-unknown q some s k e)
-    on-names h f says Nowhere e = on-limits h f says (below-exactly q says .0 e) (ltb 32 (size f)) (ltb 6 (parts f)) refl refl
+    on-names h f says Nowhere e = on-limits h f says (below-exactly q says .0 e) (ltb mostNodes (size f)) (ltb mostParts (parts f)) refl refl
 
-    on-scan : length s ≤ 512 → (x : Scan) → scan s ≡ x → Judged q s
+    on-scan : length s ≤ longestRule → (x : Scan) → scan s ≡ x → Judged q s
     on-scan h Good e = let y : (f : Formula) × SaidBy f s = rw e at (scanned s) in on-names h (y .0) (y .1) (unknownAt q 0 s) refl
     on-scan h (Bad k) e = no-text k h (rw e at (scanned s))
 
-    on-length : (b : Bool) → ltb 512 (length s) ≡ b → Judged q s
-    on-length true e = too-long (ltb-true 512 (length s) e)
-    on-length false e = on-scan (ltb-false 512 (length s) e) (scan s) refl
+    on-length : (b : Bool) → ltb longestRule (length s) ≡ b → Judged q s
+    on-length true e = too-long (ltb-true longestRule (length s) e)
+    on-length false e = on-scan (ltb-false longestRule (length s) e) (scan s) refl
 
 -- what an accepted text says
 pub record Accepts (q : ℕ) (s : List ℕ) (r : Rule) : Type 0 where
   pub formula : Formula
   pub says : SaidBy formula s
   pub below : Below q formula
-  pub small : size formula ≤ 32
-  pub few : parts formula ≤ 6
+  pub small : size formula ≤ mostNodes
+  pub few : parts formula ≤ mostParts
   pub is : r ≡ ruleOf formula
 
 pub text-accepted : (q : ℕ) → 1 ≤ q → (s : List ℕ) (r : Rule) → textRead s q ≡ accepted r → Accepts q s r

@@ -13,6 +13,7 @@ use Rattle.answers.specs.declared.Kind.{Kind}
 use Rattle.answers.specs.declared.Kind.the-variants.{Value, Room}
 use Rattle.answers.specs.Paper.{kindNumber}
 use Rattle.meaning.specs.Formula.{Formula, size, parts}
+use Rattle.meaning.specs.Limits.{mostNodes, mostParts}
 use Rattle.plant.specs.declared.Plant.{Plant}
 use Rattle.syntax.specs.declared.Rule.{Rule}
 use Rattle.syntax.specs.Grammar.{names, SaidBy, Refused, Unknown}
@@ -68,7 +69,7 @@ one-place-of-6 = one-unknown
 
 module _ (p : Plant) (fair label next : List ℕ) where
   -- every rule of the grammar within the limits is printed as a text that reads back as its value
-  pub reads-back : Beside p fair label next → (f : Formula) → Below (p .props) f → size f ≤ 32 → parts f ≤ 6 → ruleRead p fair label next (print f) ≡ accepted (ruleOf f)
+  pub reads-back : Beside p fair label next → (f : Formula) → Below (p .props) f → size f ≤ mostNodes → parts f ≤ mostParts → ruleRead p fair label next (print f) ≡ accepted (ruleOf f)
   reads-back b f below small few =
       let says = printed f (below-more (p .props) names (omega (arith, b .table .few-props)) f below) in
       answering.in-order p fair label next (print f) b ∙ reads-rule (p .props) (print f) (omega (arith, short f small)) says below small few

@@ -4,6 +4,7 @@ use mathlib.Core.List.{List, [], _∷_}
 use mathlib.Core.Bool.{Bool, false, _&&_, cond}
 use lib.Dec.{eqb, leb, ltb}
 use lib.ListN.{length}
+use Rattle.meaning.specs.Limits.{mostNodes, mostParts}
 use Rattle.answers.specs.declared.Kind.{Kind}
 use Rattle.answers.specs.declared.Kind.the-variants.{RuleLength, RuleText, Proposition, Nodes, Parts}
 use Rattle.answers.specs.declared.Outcome.{Outcome}
@@ -18,6 +19,7 @@ use Rattle.syntax.specs.Bytes.{nameOf}
 use Rattle.syntax.specs.Reader.{parse}
 use Rattle.syntax.specs.Scan.{scan}
 use Rattle.syntax.specs.Value.{emptyRule, held, count}
+use Rattle.syntax.specs.Grammar.{longestRule}
 use Rattle.reader.specs.Draft.{written}
 use Rattle.rule.specs.declared.RuleRead.{RuleRead}
 use Rattle.rule.specs.declared.Found.{Found}
@@ -43,7 +45,7 @@ unknownAt q i (b ∷ s) = cond (unknown q b s) (At i) (unknownAt q (i + 1) s)
 
 -- 7 and 8
 abbrev pub limited : Rule → RuleRead
-limited r = cond (ltb 32 (r .len)) (noRule Nodes 0) (cond (ltb 6 (count (held r))) (noRule Parts 0) (accepted r))
+limited r = cond (ltb mostNodes (r .len)) (noRule Nodes 0) (cond (ltb mostParts (count (held r))) (noRule Parts 0) (accepted r))
 
 -- 6
 abbrev pub ofFound : RuleRead → Found → RuleRead
@@ -61,7 +63,7 @@ ofScan r Good = r
 
 -- 4, and with it what a text alone is answered, for q propositions
 abbrev pub textRead : List ℕ → ℕ → RuleRead
-textRead s q = cond (ltb 512 (length s)) (noRule RuleLength 512) (ofScan (named s q) (scan s))
+textRead s q = cond (ltb longestRule (length s)) (noRule RuleLength longestRule) (ofScan (named s q) (scan s))
 
 -- 1 and 2
 abbrev pub ofTable : RuleRead → Outcome → RuleRead

@@ -5,6 +5,7 @@ use mathlib.Core.Bool.{Bool, true, false, _&&_}
 use lib.Dec.{ltb, leb}
 use Rattle.meaning.specs.Formula.{Formula, size, parts}
 use Rattle.meaning.specs.Step.{every}
+use Rattle.meaning.specs.Limits.{mostNodes, mostParts}
 use Rattle.syntax.specs.declared.Op.{Op}
 use Rattle.syntax.specs.declared.Op.the-variants.{False, True, Prop, Not, Next, Finally, Globally, Until, Release, And, Or, Implies}
 use Rattle.syntax.specs.declared.Rule.{Rule}
@@ -46,10 +47,10 @@ known q Implies = true
 pub record RuleValue (r : Rule) (q : ℕ) : Type 0 where
   pub formula : Formula
   pub is : r ≡ ruleOf formula
-  pub small : size formula ≤ 32
-  pub few : parts formula ≤ 6
+  pub small : size formula ≤ mostNodes
+  pub few : parts formula ≤ mostParts
   pub below : Below q formula
 
 -- the same, tested
 abbrev pub validOf : Rule → ℕ → Bool
-validOf r q = (((leb (r .len) 32 && whole (held r) 0) && every (known q) (held r)) && leb (count (held r)) 6) && every isFalse (beyond r)
+validOf r q = (((leb (r .len) mostNodes && whole (held r) 0) && every (known q) (held r)) && leb (count (held r)) mostParts) && every isFalse (beyond r)

@@ -10,6 +10,7 @@ use lib.ListN.{length, take, drop, replicate, length-drop, take-append-drop}
 use lib.Seq.{length-take-le}
 use Rattle.meaning.specs.Formula.{Formula, never, always, prop, neg, next, finally, globally, until, release, and, or, implies, size, parts}
 use Rattle.meaning.specs.Step.{every}
+use Rattle.meaning.specs.Limits.{mostNodes, mostParts}
 use Rattle.words.specs.Lists.{every-append}
 use Rattle.syntax.specs.declared.Op.{Op}
 use Rattle.syntax.specs.declared.Op.the-variants.{False, True, Prop, Not, Next, Finally, Globally, Until, Release, And, Or, Implies}
@@ -90,19 +91,19 @@ module _ (q : ℕ) where
 pub rule-valid : {r : Rule} {q : ℕ} → RuleValue r q → validOf r q ≡ true
 rule-valid {r} {q} v = ap (λ x. validOf x q) (v .is) ∙ go (v .formula) (v .small) (v .few) (v .below)
   where
-    go : (f : Formula) → size f ≤ 32 → parts f ≤ 6 → Below q f → validOf (ruleOf f) q ≡ true
+    go : (f : Formula) → size f ≤ mostNodes → parts f ≤ mostParts → Below q f → validOf (ruleOf f) q ≡ true
     go f h g b =
         let e = held-is f in
         let p = parts-held f in
-        both (both (both (both (le-leb (size f) 32 h) (ap (λ os. whole os 0) e ∙ rule-whole f)) (ap (every (known q)) e ∙ below-nodes q f .1 b)) (le-leb (count (held (ruleOf f))) 6 (omega arith)))
-        (ap (every isFalse) (beyond-is f) ∙ blanks (32 - size f))
+        both (both (both (both (le-leb (size f) mostNodes h) (ap (λ os. whole os 0) e ∙ rule-whole f)) (ap (every (known q)) e ∙ below-nodes q f .1 b)) (le-leb (count (held (ruleOf f))) mostParts (omega arith)))
+        (ap (every isFalse) (beyond-is f) ∙ blanks (mostNodes - size f))
 
 -- what a valid value's test says
 record Tested (r : Rule) (q : ℕ) : Type 0 where
-  short : r .len ≤ 32
+  short : r .len ≤ mostNodes
   one : whole (held r) 0 ≡ true
   names : every (known q) (held r) ≡ true
-  counts : count (held r) ≤ 6
+  counts : count (held r) ≤ mostParts
   rest : every isFalse (beyond r) ≡ true
 
 tested : (r : Rule) (q : ℕ) → validOf r q ≡ true → Tested r q
@@ -111,13 +112,13 @@ tested r q h =
     let s = both-true _ _ (p .0) in
     let t = both-true _ _ (s .0) in
     let u = both-true _ _ (t .0) in
-    record { short = leb-true (r .len) 32 (u .0); one = u .1; names = t .1; counts = leb-true (count (held r)) 6 (s .1); rest = p .1 }
+    record { short = leb-true (r .len) mostNodes (u .0); one = u .1; names = t .1; counts = leb-true (count (held r)) mostParts (s .1); rest = p .1 }
 
 -- a value with f's nodes, and then False, is f's
-rebuilt : (r : Rule) (f : Formula) → r .len ≡ size f → take (r .len) (r .nodes) ≡ nodesOf (postfix f) → drop (r .len) (r .nodes) ≡ replicate (32 - size f) blank → r ≡ ruleOf f
+rebuilt : (r : Rule) (f : Formula) → r .len ≡ size f → take (r .len) (r .nodes) ≡ nodesOf (postfix f) → drop (r .len) (r .nodes) ≡ replicate (mostNodes - size f) blank → r ≡ ruleOf f
 rebuilt r f long fore aft =
     ap (λ l. record { len = r .len; nodes = l }) (sym (take-append-drop (r .len) (r .nodes)) ∙ ap (λ l. l ++ drop (r .len) (r .nodes)) fore ∙ ap (λ l. nodesOf (postfix f) ++ l) aft)
-    ∙ ap (λ k. record { len = k; nodes = nodesOf (postfix f) ++ replicate (32 - size f) blank }) long
+    ∙ ap (λ k. record { len = k; nodes = nodesOf (postfix f) ++ replicate (mostNodes - size f) blank }) long
 
 same-parts : (r : Rule) (f : Formula) → r ≡ ruleOf f → count (held r) ≡ parts f
 same-parts r f e = ap (λ x. count (held x)) e ∙ parts-held f
@@ -130,9 +131,9 @@ valid-rule r q full h =
     let ns = r .nodes in
     let fore : take (r .len) ns ≡ nodesOf (postfix f) = sym (nodes-ops (take (r .len) ns)) ∙ ap nodesOf (of .1) in
     let long : r .len ≡ size f = sym (length-take-le (r .len) ns (omega (arith, t .short))) ∙ ap length fore ∙ length-nodes (postfix f) ∙ length-postfix f in
-    let small : size f ≤ 32 = omega (arith, t .short) in
-    let many : length (drop (r .len) ns) ≡ 32 - size f = length-drop (r .len) ns ∙ omega arith in
-    let aft : drop (r .len) ns ≡ replicate (32 - size f) blank = all-blank (drop (r .len) ns) (t .rest) ∙ ap (λ n. replicate n blank) many in
+    let small : size f ≤ mostNodes = omega (arith, t .short) in
+    let many : length (drop (r .len) ns) ≡ mostNodes - size f = length-drop (r .len) ns ∙ omega arith in
+    let aft : drop (r .len) ns ≡ replicate (mostNodes - size f) blank = all-blank (drop (r .len) ns) (t .rest) ∙ ap (λ n. replicate n blank) many in
     let is = rebuilt r f long fore aft in
     record {
       formula = f;

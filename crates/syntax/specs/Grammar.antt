@@ -17,6 +17,10 @@ use Rattle.syntax.specs.declared.Token.the-variants.{Leaf, Prefix, Infix
 abbrev pub names : ℕ
 names = mostProps
 
+-- the most bytes that the text of a rule may have (01, Sizes)
+abbrev pub longestRule : ℕ
+longestRule = 512
+
 -- a number below 100 in decimal, with no leading zero
 unfoldable pub spell : ℕ → List ℕ
 spell k = cond (ltb k 10) ((48 + k) ∷ []) ((48 + k / 10) ∷ (48 + k % 10) ∷ [])

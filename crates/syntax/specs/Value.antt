@@ -5,6 +5,7 @@ use mathlib.Core.Bool.{Bool, true, false, cond}
 use lib.Dec.{ltb}
 use lib.ListN.{getD, take, drop, replicate}
 use Rattle.meaning.specs.Formula.{Formula, never, size}
+use Rattle.meaning.specs.Limits.{mostNodes}
 use Rattle.syntax.specs.declared.Op.{Op}
 use Rattle.syntax.specs.declared.Op.the-variants.{False, True, Prop, Not, Next, Finally, Globally, Until, Release, And, Or, Implies}
 use Rattle.syntax.specs.declared.Node.{Node}
@@ -20,7 +21,7 @@ abbrev pub opAt : List Node → ℕ → Op
 opAt nodes i = getD nodes i blank .op
 
 abbrev pub emptyRule : Rule
-emptyRule = record { len = 0; nodes = replicate 32 blank }
+emptyRule = record { len = 0; nodes = replicate mostNodes blank }
 
 unfoldable pub nodesOf : List Op → List Node
 nodesOf [] = []
@@ -30,13 +31,13 @@ unfoldable pub opsOf : List Node → List Op
 opsOf [] = []
 opsOf (n ∷ ns) = n .op ∷ opsOf ns
 
--- the value of a rule that has 32 nodes at most
+-- the value of a rule of no more nodes than a value has
 abbrev pub ruleOf : Formula → Rule
-ruleOf f = record { len = size f; nodes = nodesOf (postfix f) ++ replicate (32 - size f) blank }
+ruleOf f = record { len = size f; nodes = nodesOf (postfix f) ++ replicate (mostNodes - size f) blank }
 
 -- how many nodes of a value stand in its array
 abbrev pub stored : Rule → ℕ
-stored r = cond (ltb 32 (r .len)) 32 (r .len)
+stored r = cond (ltb mostNodes (r .len)) mostNodes (r .len)
 
 -- the nodes of a value, and those beyond its length
 abbrev pub held : Rule → List Op

@@ -7,6 +7,7 @@ use lib.Dec.{ltb}
 use lib.ListN.{length}
 use Rattle.meaning.specs.Formula.{Formula}
 use Rattle.meaning.specs.Run as run
+use Rattle.meaning.specs.Limits.{witnessRoom}
 use Rattle.model.specs.Monitor as model
 use Rattle.model.specs.Checks.{pairsOk}
 use Rattle.model.specs.Witness.{hasLive}
@@ -46,7 +47,7 @@ module _ (p : Plant) (fair label next : List ℕ) (rule : Rule) (m : Monitor) wh
   unfoldable pub askedOf : ℕ → Outcome
   askedOf room =
       andThen (checkedOf p fair label next rule (pairsOk table formula (m .keeps .words) && pairsOk table formula (m .breaks .words)))
-      (unless (not (ltb room 49152)) Room)
+      (unless (not (ltb room witnessRoom)) Room)
 
   -- 13 comes last
   unfoldable pub witnessOutcome : Bool → ℕ → Outcome
