@@ -6,6 +6,7 @@ pub mod Causes
 mod Judged
 pub mod Refusals
 pub mod OnPaper
+pub mod Asked
 pub mod OneAnswer
 pub mod FrontDoor
 mod Lamps
