@@ -1,4 +1,5 @@
 pub mod Demand
+pub mod ThreeTexts
 pub mod Marked
 pub mod Laws
 pub mod Unique

@@ -1,0 +1,165 @@
+-- The calls one after the other, from the bytes of a table, a rule and a log to the lamp behind the last event; and that for texts which are accepted it is the model's lamp for what
+-- they say. What the program writes of three files is said in FrontDoor; here stands what a caller is shown.
+use Prim.Native.Nat.{ℕ}
+use mathlib.Core.Path.{_≡_, refl, ap, _∙_}
+use mathlib.Core.Bool.{Bool, true, false, So, _&&_, false≢true}
+use mathlib.Core.List.{List, [], _∷_, map}
+use lib.ListN.{take}
+use Rattle.words.specs.Below.{listBelow}
+use Rattle.words.specs.Truth.{and-says}
+use Rattle.meaning.specs.Formula.{Formula}
+use Rattle.meaning.specs.Run as run
+use Rattle.meaning.specs.Event as meaning
+use Rattle.meaning.specs.Step.{every}
+use Rattle.text.specs.Number.{widthOf}
+use Rattle.model.specs.Monitor as model
+use Rattle.model.specs.Log as model-log
+use Rattle.answers.specs.declared.Outcome.{Outcome}
+use Rattle.answers.specs.declared.Outcome.the-variants.{Accepted, Refused}
+use Rattle.answers.specs.Paper.{Paper, verdict, refusal, paper}
+use Rattle.plant.specs.declared.Plant.{Plant}
+use Rattle.plant.specs.declared.Table.{Table}
+use Rattle.plant.specs.Table.{plantOf}
+use Rattle.plant.specs.Read.{tableRead}
+use Rattle.plant.specs.Promises.{lent-passes}
+use Rattle.syntax.specs.declared.Rule.{Rule}
+use Rattle.rule.specs.declared.RuleRead.{RuleRead}
+use Rattle.rule.specs.Reading.{ruleRead}
+use Rattle.rule.proofs.Promises.{accepted-exactly}
+use Rattle.log.specs.declared.Event.{Event}
+use Rattle.log.specs.declared.LogRead.{LogRead}
+use Rattle.log.specs.Legal.{legalOf, legal-exactly}
+use Rattle.log.specs.Read.{logRead, eventAt}
+use Rattle.checks.specs.Checks.{formulaOf}
+use Rattle.checks.proofs.Input.{Input, given}
+use Rattle.advance.specs.Held.{eventOf}
+use Rattle.monitor.specs.declared.Watched.{Watched}
+use Rattle.monitor.proofs.Promises.{lamp-paper}
+use Rattle.watching.specs.Watching.{after, AllLegal, after-model}
+
+-- ---- the calls
+
+-- a refusal, or what comes behind it
+abbrev pub behind : Outcome → Paper → Paper
+behind Accepted p = p
+behind (Refused r) p = refusal r
+
+module _ (table rule log : List ℕ) where
+  -- the table is read, and of its parts as many are lent as it counts
+  abbrev t : Table
+  t = tableRead table .table
+
+  abbrev fair : List ℕ
+  fair = take (t .plant .just) (t .fair)
+
+  abbrev label : List ℕ
+  label = take (t .plant .states) (t .label)
+
+  abbrev next : List ℕ
+  next = take (t .plant .states) (t .next)
+
+  -- beside it the rule and the log are, and each line's event
+  abbrev ruled : RuleRead
+  ruled = ruleRead (t .plant) fair label next rule
+
+  abbrev logged : LogRead
+  logged = logRead (widthOf (t .plant .props)) log
+
+  abbrev events : List Event
+  events = listBelow (logged .lines) (eventAt (widthOf (t .plant .props)) log)
+
+  -- WHAT IS SHOWN: the first refusal of a text; or, with the live pairs prepared, the monitor opened and each event stepped, the last answer
+  abbrev pub shownFor : Paper
+  shownFor = behind (tableRead table .outcome) (behind (ruled .outcome) (behind (logged .outcome) (paper (after (t .plant) fair label next (ruled .rule) events .answer))))
+
+-- ---- what the texts say
+
+abbrev isAccepted : Outcome → Bool
+isAccepted Accepted = true
+isAccepted (Refused r) = false
+
+-- a table, a rule and events, as `meaning` has them; and whether all three texts are accepted and each event is legal
+pub record Said : Type 0 where
+  pub fine : Bool
+  pub on : run.Plant
+  pub rule : Formula
+  pub log : List meaning.Event
+
+module _ (table rule log : List ℕ) where
+  abbrev legals : Bool
+  legals = every (λ e. legalOf e (t table rule log .plant .props)) (events table rule log)
+
+  abbrev pub saidBy : Said
+  saidBy = record {
+    fine = (isAccepted (tableRead table .outcome) && isAccepted (ruled table rule log .outcome)) && (isAccepted (logged table rule log .outcome) && legals);
+    on = plantOf (t table rule log .plant) (fair table rule log) (label table rule log) (next table rule log);
+    rule = formulaOf (ruled table rule log .rule);
+    log = map eventOf (events table rule log);
+  }
+
+-- the lamp of the model
+abbrev pub modelShown : Said → Paper
+modelShown x = let m = model-log.watched (x .on) (x .rule) (x .log) in verdict (model.verdict m) (model.left m)
+
+-- ---- the law
+
+accepted-is : (o : Outcome) → So (isAccepted o) → o ≡ Accepted
+accepted-is Accepted so = refl
+accepted-is (Refused r) so = absurd (false≢true so)
+
+all-legal : (p : Plant) (fair label next : List ℕ) (rule : Rule) (es : List Event) → So (every (λ e. legalOf e (p .props)) es) → AllLegal p fair label next rule es
+unfolding every
+all-legal p fair label next rule [] so = tt
+all-legal p fair label next rule (e ∷ es) so =
+    let (first, others) = and-says (legalOf e (p .props)) (every (λ e. legalOf e (p .props)) es) .0 so in
+    (legal-exactly (plantOf p fair label next) e .0 first .1, all-legal p fair label next rule es others)
+
+module _ (table rule log : List ℕ) (fine : So (saidBy table rule log .fine)) where
+  abbrev p : Plant
+  p = t table rule log .plant
+
+  abbrev fs : List ℕ
+  fs = fair table rule log
+
+  abbrev ls : List ℕ
+  ls = label table rule log
+
+  abbrev ns : List ℕ
+  ns = next table rule log
+
+  abbrev r : Rule
+  r = ruled table rule log .rule
+
+  abbrev es : List Event
+  es = events table rule log
+
+  -- one by one
+  tests :
+      So (isAccepted (tableRead table .outcome) && isAccepted (ruled table rule log .outcome)) × So (isAccepted (logged table rule log .outcome) && legals table rule log)
+  tests = and-says (isAccepted (tableRead table .outcome) && isAccepted (ruled table rule log .outcome)) (isAccepted (logged table rule log .outcome) && legals table rule log) .0 fine
+
+  first-two : So (isAccepted (tableRead table .outcome)) × So (isAccepted (ruled table rule log .outcome))
+  first-two = and-says (isAccepted (tableRead table .outcome)) (isAccepted (ruled table rule log .outcome)) .0 (tests .0)
+
+  last-two : So (isAccepted (logged table rule log .outcome)) × So (legals table rule log)
+  last-two = and-says (isAccepted (logged table rule log .outcome)) (legals table rule log) .0 (tests .1)
+
+  table-ok : tableRead table .outcome ≡ Accepted
+  table-ok = accepted-is (tableRead table .outcome) (first-two .0)
+
+  rule-ok : ruled table rule log .outcome ≡ Accepted
+  rule-ok = accepted-is (ruled table rule log .outcome) (first-two .1)
+
+  log-ok : logged table rule log .outcome ≡ Accepted
+  log-ok = accepted-is (logged table rule log .outcome) (last-two .0)
+
+  input : Input p fs ls ns r
+  input =
+      let takes = accepted-exactly p fs ls ns rule r .0 (λ i. record { outcome = rule-ok i; rule = r }) in
+      given p fs ls ns r (lent-passes table table-ok) (record { formula = takes .formula; is = takes .is; small = takes .small; few = takes .few; below = takes .below })
+
+  pub texts-shown : shownFor table rule log ≡ modelShown (saidBy table rule log)
+  texts-shown =
+      rw (table-ok, rule-ok, log-ok)
+      (ap (λ (w : Watched). paper (w .answer)) (after-model p fs ls ns r input es (all-legal p fs ls ns r es (last-two .1)))
+      ∙ lamp-paper (model-log.watched (saidBy table rule log .on) (saidBy table rule log .rule) (saidBy table rule log .log)))
