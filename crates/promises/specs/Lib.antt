@@ -2,7 +2,6 @@ pub mod Demand
 pub mod ThreeTexts
 pub mod Marked
 pub mod Laws
-pub mod Unique
 pub mod Causes
 mod Judged
 pub mod Refusals

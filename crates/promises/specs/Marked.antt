@@ -113,6 +113,10 @@ all-fine = ap (every (λ (x : Said). x .fine)) texts-read
 abbrev onPaper : List ℕ → Paper
 onPaper l = verdict (getD l 0 0) (getD l 1 0)
 
+-- row by row it is what stands here
+rows-same : map onPaper (map (λ m. m .shows) marked) ≡ map (λ r. r .shows) rows
+rows-same = refl
+
 -- THE CLAIM: for each row the calls show what stands in it
 pub marked-called : map (λ r. shownFor (r .table) (r .rule) (r .log)) rows ≡ map (λ r. r .shows) rows
-marked-called = all-shown rows all-fine ∙ ap (map modelShown) texts-read ∙ ap (map onPaper) marked-shown
+marked-called = all-shown rows all-fine ∙ ap (map modelShown) texts-read ∙ ap (map onPaper) marked-shown ∙ rows-same
