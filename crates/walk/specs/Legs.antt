@@ -1,7 +1,7 @@
 -- The stretches of the walk: down the ranks to a debt or to where it stays, by way of each debt, and back to where the loop began.
 use Prim.Native.Nat.{ℕ, suc, _+_, _*_, _%_, _≤_, _<_}
 use native.Mathlib.Omega.{arith}
-use mathlib.Core.Path.{_≡_, refl, _∙_}
+use mathlib.Core.Path.{_≡_, refl, sym}
 use mathlib.Core.Logic.{_⊎_}
 use mathlib.Core.Bool.{So}
 use mathlib.Core.List.{List, [], _∷_, _++_, List·Memᴰ, List·Memᴰ·head}
@@ -14,7 +14,7 @@ use Rattle.graphs.specs.Lasso.{Tour, Ring, Trail, trail-start, trail-on, trail-
 use Rattle.words.specs.Over
 use Rattle.walk.specs.Rests.{Resting}
 use Rattle.walk.specs.Knots.{Knotted, knotted-in}
-use Rattle.walk.specs.Written.{states, Written, written-start, written-on, written-join, written-widen, written-count, written-over}
+use Rattle.walk.specs.Written.{states, Written, written-start, written-on, written-join, written-widen, written-over}
 use Rattle.words.specs.Tests.{eq-says}
 use Rattle.words.specs.Folds.{count-le}
 
@@ -38,12 +38,13 @@ pub record Going (edge : Edges) (debts : List Nodes) (Z : Nodes) (q a : ℕ) (be
   pub trail : Trail edge debts Z q a (written .nodes)
   pub short : to ≤ k * 4095
 
--- the way from x down to `last` is written, and then its state
-pub record Rested (edge : Edges) (C : Nodes) (rank : ℕ → ℕ) (x : ℕ) (before now : List ℕ) (stem : ℕ) : Type 0 where
+-- the way from x down to `last` is written, and then its state, which is the loop
+pub record Rested (edge : Edges) (C : Nodes) (rank : ℕ → ℕ) (x : ℕ) (before now : List ℕ) (stem turn : ℕ) : Type 0 where
   pub last : ℕ
   pub between : List ℕ
   pub led : Led edge C rank x last before between 0 stem
-  pub bytes : now ≡ set between stem (last % 64)
+  pub one : turn ≡ 1
+  pub bytes : now ≡ Over.over (states (led .written .nodes) ++ last % 64 ∷ []) before
 
 -- a loop from q is written at the front
 pub record Turned (edge : Edges) (debts : List Nodes) (Z : Nodes) (q : ℕ) (before now : List ℕ) (to : ℕ) : Type 0 where
@@ -159,16 +160,14 @@ module _ {edge : Edges} {Z : Nodes} where
     }
 
     -- the stem down to where it stays
-    pub walked-rest : {C : Nodes} {rank : ℕ → ℕ} {before now : List ℕ} {stem : ℕ} → Resting edge debts Z C rank → So (C x)
-        → rank x < length before → Rested edge C rank x before now stem → Walked edge debts Z A before now stem 1
-    walked-rest {before} {stem} h i fits r =
+    pub walked-rest : {C : Nodes} {rank : ℕ → ℕ} {before now : List ℕ} {stem turn : ℕ} → Resting edge debts Z C rank → So (C x)
+        → Rested edge C rank x before now stem turn → Walked edge debts Z A before now stem turn
+    walked-rest h i r =
         let n = h .near in
         let e = r .led in
         let q = r .last in
         let goal = n .ends q (e .inside) (e .ends) in
         let live = n .ranked .inside q (e .inside) in
-        let front = states (e .written .nodes) in
-        let many : length front ≡ stem = written-count (e .written) in
         record {
           first = x;
           asked = held;
@@ -180,8 +179,8 @@ module _ {edge : Edges} {Z : Nodes} where
             turns = record { walks = on live (h .rests .moves q goal) (done live); moves = omega arith; meets = λ g m. (q, h .rests .meets q goal g m, List·Memᴰ·head refl) };
           };
           stem-count = omega (arith, e .written .count);
-          turn-count = refl;
+          turn-count = sym (r .one);
           stem-short = omega (arith, e .short, near-low n x i);
-          turn-short = omega arith;
-          bytes = r .bytes ∙ rw (written-over (e .written), ← many) (Over.over-set front before (q % 64) (omega (arith, many, e .short)));
+          turn-short = omega (arith, r .one);
+          bytes = r .bytes;
         }

@@ -29,10 +29,22 @@ pub struct Lengths {
 }
 
 impl Lengths {
-    // The most states of a loop, and the least bytes that a buffer must have.
+    // The most states of a stem and of a loop, and the least bytes that a buffer must have.
+    pub const STEM: usize = 4095;
+
     pub const TURN: usize = 45056;
 
     pub const ROOM: usize = 49152;
+
+    // The most of both: no witness is longer.
+    pub fn most() -> Self
+        ensures { λ r. ⌜ (r .stem ≡ 4095) × (r .turn ≡ 45056) ⌝ }
+    {
+        Lengths {
+            stem: Lengths::STEM,
+            turn: Lengths::TURN,
+        }
+    }
 }
 
 // Writes a walk from x: the stem to a pair to which all leads back that it leads to, and the loop from there.
@@ -99,8 +111,7 @@ pub fn write_walk<'a>(
     let x = common_pair(asked, live);
     let near = ways_to_rest(next, leave, enter, count, fair, settled, parts, live);
     if words::has(near.words[x / 64], x % 64) {
-        let stem = write_rest(next, leave, enter, count, near, x, buffer);
-        return Lengths { stem, turn: 1 };
+        return write_rest(next, leave, enter, count, near, x, buffer);
     }
     write_far(
         next,

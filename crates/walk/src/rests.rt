@@ -1,12 +1,15 @@
 // Pairs at which a run can stay for ever: they lead to themselves, and every debt is met there.
+use crate::Lengths;
 use crate::legs::write_leg;
 use leads::halves::both;
 use nearest::Near;
 use pairs::Pairs;
 ghost use mathlib.Core.Path.{_≡_};
 ghost use mathlib.Core.Bool.{So};
-ghost use Prim.Native.Nat.{_+_, _≤_, _<_};
+ghost use mathlib.Core.List.{[], _∷_};
+ghost use Prim.Native.Nat.{_+_, _%_, _≤_, _<_};
 ghost use lib.ListN.{length};
+ghost use Rattle.words.specs.Over.{over};
 ghost use Rattle.model.specs.Sets.{nodesOf};
 ghost use Rattle.nearest.specs.Graph.{movesOf};
 ghost use Rattle.nearest.specs.Ranking.{rankOf};
@@ -91,7 +94,16 @@ pub fn ways_to_rest(
     nearest::nearest(next, leave, enter, count, live, &goal.words)
 }
 
-// Writes the way from x down to rank 0, and then the state where it ends; how many come before that.
+// Writes the loop of a run that stays at y, one state, at the front of the lent tail, and gives its length.
+fn write_stay(y: usize, out: &mut [u8]) -> usize
+    requires { ⌜ 0 < length (now out) ⌝ }
+    ensures { λ r. ⌜ (r ≡ 1) × (now (out .exit) ≡ over (y % 64 ∷ []) (now (out .entry))) ⌝ }
+{
+    out[0] = (y % 64) as u8;
+    1
+}
+
+// Writes the stem, the way from x down to rank 0, and then the loop, the state where it ends, for which the tail is lent on.
 pub fn write_rest(
     next: &[u64],
     leave: &[u64; 1024],
@@ -99,16 +111,16 @@ pub fn write_rest(
     count: usize,
     near: Near,
     x: usize,
-    out: &mut [u8],
-) -> usize
-    requires { ⌜ (count ≤ 64) × (x < 4096) × (rankOf (near .ranks) x < length (now out)) ⌝ }
+    buffer: &mut [u8],
+) -> Lengths
+    requires { ⌜ (count ≤ 64) × (x < 4096) × (rankOf (near .ranks) x < length (now buffer)) ⌝ }
     requires slope { ⌜ Slope (movesOf (now next) (now leave) (now enter) count) (nodesOf (near .words)) (rankOf (near .ranks)) ⌝ }
     requires inside { ⌜ So (nodesOf (near .words) x) ⌝ }
     ensures { λ r. ⌜ Rested (movesOf (now (next .entry)) (now (leave .entry)) (now (enter .entry)) count)
-        (nodesOf (near .words)) (rankOf (near .ranks)) x (now (out .entry)) (now (out .exit)) r ⌝ }
+        (nodesOf (near .words)) (rankOf (near .ranks)) x (now (buffer .entry)) (now (buffer .exit)) (r .stem) (r .turn) ⌝ }
 {
-    let way = write_leg(next, leave, enter, count, near, x, out, 0);
+    let way = write_leg(next, leave, enter, count, near, x, buffer, 0);
     let stem = way.at;
-    out[stem] = (way.end % 64) as u8;
-    stem
+    let turn = write_stay(way.end, &mut buffer[stem..]);
+    Lengths { stem, turn }
 }

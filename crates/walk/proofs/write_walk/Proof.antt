@@ -21,7 +21,7 @@ returns : tie.Need-returns
 returns c =
     let h = c .before .before .before .before .before .before .before .ways-to-rest .ensures in
     let i = sym (c .before .before .before .before .before .has .ensures) ∙ c .before .before .before .before .if1 .taken in
-    walked-rest _ (c .before .before .before .before .before .before .before .before .common-pair .ensures .0 .held) h i (omega (arith, near-low (h .near) _ i, c .before .before .before .before .before .before .before .before .before .before .before .before .pre .0 .4)) (c .before .before .write-rest .ensures)
+    walked-rest _ (c .before .before .before .before .before .before .before .before .common-pair .ensures .0 .held) h i (c .before .before .write-rest .ensures)
 
 write-far-requires : tie.Need-write-far-requires
 write-far-requires c κs = let p = c .before .before .before .before .before .before .before .before .before .pre in (p .0, (p .1 .0, c .before .before .before .before .before .common-pair .ensures .1))
