@@ -1,0 +1,197 @@
+-- 01's step rule, said of the calls: for ANY live set and state handed in, an accepted `open` or `step` holds exactly the pairs that the rule of meaning/specs/Step asks for, and
+-- what it shows goes by its two sets alone. Nothing here asks that the live set was prepared, or that the state was reached by events.
+use Prim.Native.Nat.{ℕ, _≤_, _<_}
+use native.Mathlib.Omega.{arith}
+use mathlib.Core.Path.{_≡_, refl, ap, _∙_}
+use mathlib.Core.Logic.{_↔_, _⊎_, inl, inr, ⊎-elim, Iff·trans}
+use mathlib.Core.Bool.{Bool, true, false, So, not, false≢true}
+use mathlib.Core.List.{List}
+use lib.ListN.{length}
+use borrow.Author.Tests.{not-true}
+use Rattle.meaning.specs.Says.{Says}
+use Rattle.meaning.specs.Formula.{Formula}
+use Rattle.meaning.specs.Run as run
+use Rattle.meaning.specs.Verdict.{verdictOf}
+use Rattle.meaning.specs.Step as step
+use Rattle.meaning.specs.Step.{Opens, Stays}
+use Rattle.meaning.specs.Sense.{split-anew}
+use Rattle.meaning.specs.Limits.{AcceptedTable, Small}
+use Rattle.words.specs.Below.{countBelow}
+use Rattle.words.specs.Laws.{bit-or}
+use Rattle.words.specs.Folds.{count-beyond, any-says}
+use Rattle.words.specs.Truth.{not-so, says-itself, says-or, says-same}
+use Rattle.pairs.specs.declared.Pairs.{Pairs}
+use Rattle.pairs.specs.Sets.{inside, emptyOf, occursIn, leftOf, occupied, occupant}
+use Rattle.theory.specs.Alive.{valuations-few}
+use Rattle.model.specs.Monitor as model
+use Rattle.model.specs.Sets.{PairSet}
+use Rattle.model.specs.Rule.{opening-rule, opening-sets, step-rule, step-sets, first-restart}
+use Rattle.answers.specs.declared.Lamp.{Lamp}
+use Rattle.answers.specs.declared.Answer.{Answer}
+use Rattle.answers.specs.declared.Answer.the-variants.{Shown, Refused}
+use Rattle.answers.specs.declared.Outcome.{Outcome}
+use Rattle.answers.specs.declared.Outcome.the-variants as Outcomes
+use Rattle.answers.specs.Paper.{verdict, paper}
+use Rattle.plant.specs.declared.Plant.{Plant}
+use Rattle.syntax.specs.declared.Rule.{Rule}
+use Rattle.log.specs.declared.Event.{Event}
+use Rattle.advance.specs.declared.Monitor.{Monitor}
+use Rattle.advance.specs.Held.{modelOf, eventOf}
+use Rattle.monitor.specs.declared.Watched.{Watched}
+use Rattle.monitor.specs.Calls.{none, lampOf, watched, lit, openOf, lookOf, stepChecked, stepOf}
+use Rattle.monitor.proofs.Promises.{lamp-paper, open-accepted, look-accepted, step-accepted}
+use Rattle.watching.specs.Watching as watching
+use Rattle.promises.specs.Demand.{sideOf}
+
+-- the pairs of a set handed in, and of the two sets of a monitor
+abbrev pub Of : Pairs → step.Pairs
+Of set s v = So (inside (set .words) s v)
+
+abbrev pub Sides : Monitor → Bool → step.Pairs
+Sides m b s v = So (inside (sideOf m b) s v)
+
+-- the call is accepted: it shows a lamp
+abbrev pub Accepts : Answer → Type 0
+Accepts a = (l : Lamp) × (a ≡ Shown l)
+
+-- a monitor's lamp: the verdict by which of its two sets are occupied, and `left`, how many table states occur in them
+pub record ShownBy (T : run.Plant) (m : Monitor) (a : Answer) : Type 0 where
+  pub some : Bool → Bool
+  pub some-says : (b : Bool) → Says (some b) ((s : ℕ) × (v : ℕ) × Sides m b s v)
+  pub left : ℕ
+  pub counts : (t : ℕ → Bool) × ((s : ℕ) → Says (t s) ((b : Bool) × (v : ℕ) × Sides m b s v)) × (left ≡ countBelow (T .states) t)
+  pub shown : paper a ≡ verdict (verdictOf (some true) (some false)) left
+
+-- what `open` gives: no event came, and of the live pairs those at starting states, by the rule's value there
+pub record Opened (T : run.Plant) (f : Formula) (live : Pairs) (w : Watched) : Type 0 where
+  pub fresh : w .monitor .seen ≡ false
+  pub holds : (b : Bool) (s v : ℕ) → Says (inside (sideOf (w .monitor) b) s v) (Of live s v × Opens T f b s v)
+  pub lamp : ShownBy T (w .monitor) (w .answer)
+
+-- what `step` gives: an event came, and the pairs of the step rule
+pub record Stepped (T : run.Plant) (f : Formula) (live : Pairs) (m : Monitor) (e : Event) (w : Watched) : Type 0 where
+  pub came : w .monitor .seen ≡ true
+  pub holds : (b : Bool) (s v : ℕ) → Says (inside (sideOf (w .monitor) b) s v) (Stays T f (Of live) (Sides m) (m .seen) (eventOf e) b s v)
+  pub lamp : ShownBy T (w .monitor) (w .answer)
+
+-- ---- the lamp of a monitor whose sets are of the table and the rule
+
+module _ (T : run.Plant) (f : Formula) (A : AcceptedTable T) (small : Small f) (m : Monitor) (held : (b : Bool) → PairSet T f (sideOf m b)) where
+  low : (b : Bool) (s v : ℕ) → Sides m b s v → v < 64
+  low b s v i = let k = held b .range s v i .1 in let p = valuations-few f small in omega arith
+
+  occurs : ℕ → Bool
+  occurs = occursIn (m .keeps .words) (m .breaks .words)
+
+  occurs-says : (s : ℕ) → Says (occurs s) ((b : Bool) × (v : ℕ) × Sides m b s v)
+  unfolding occurs
+  occurs-says s = Iff·trans
+      (any-says _ _ (λ v. rw bit-or (says-or (says-itself (inside (m .keeps .words) s v)) (says-itself (inside (m .breaks .words) s v)))) 64)
+      (λ (v, _, o). ⊎-elim (λ i. (true, v, i)) (λ i. (false, v, i)) o, of)
+    where
+      of : ((b : Bool) × (v : ℕ) × Sides m b s v) → (v : ℕ) × (v < 64) × (Sides m true s v ⊎ Sides m false s v)
+      of (true, v, i) = (v, low true s v i, inl i)
+      of (false, v, i) = (v, low false s v i, inr i)
+
+  pub shown-by : ShownBy T m (lampOf (modelOf m))
+  unfolding model.verdict model.left leftOf occurs
+  shown-by = record {
+    some = λ b. not (emptyOf (sideOf m b));
+    some-says = λ b. (
+      λ e. let (s, v, _, i) = occupant (sideOf m b) (not-true _ e) in (s, v, i),
+      λ (s, v, i). rw (occupied (sideOf m b) s v (low b s v i) i),
+    );
+    left = model.left (modelOf m);
+    counts = (occurs, occurs-says, count-beyond occurs (T .states) 64 (A .few-states) none-beyond);
+    shown = lamp-paper (modelOf m);
+  }
+    where
+      none-beyond : (s : ℕ) → T .states ≤ s → occurs s ≡ false
+      none-beyond s le = not-so (occurs s) (λ o. let (b, v, i) = occurs-says s .0 o in let k = held b .range s v i .0 in absurd (omega arith))
+
+-- ---- the calls
+
+isShown : Answer → Bool
+isShown (Shown l) = true
+isShown (Refused r) = false
+
+-- a call that shows a lamp passed its checks
+passed : (o : Outcome) (old : Monitor) (new : model.Monitor) → Accepts (watched o old new .answer) → o ≡ Outcomes.Accepted
+unfolding isShown
+passed Outcomes.Accepted old new a = refl
+passed (Outcomes.Refused r) old new (l, e) = absurd (false≢true (ap isShown e))
+
+passed-look : (o : Outcome) (m : model.Monitor) → Accepts (lit o m) → o ≡ Outcomes.Accepted
+unfolding isShown
+passed-look Outcomes.Accepted m a = refl
+passed-look (Outcomes.Refused r) m (l, e) = absurd (false≢true (ap isShown e))
+
+module _ (p : Plant) (fair label next : List ℕ) (rule : Rule) (full : length (rule .nodes) ≡ 32) where
+  abbrev T : run.Plant
+  T = watching.T p fair label next rule
+
+  abbrev f : Formula
+  f = watching.f p fair label next rule
+
+  -- THE OPENING, for any live set
+  pub open-any : (live : Pairs) → Accepts (openOf p fair label next rule live .answer) → Opened T f live (openOf p fair label next rule live)
+  unfolding openOf model.opening
+  open-any live a =
+      let new = model.opening T f (live .words) in
+      let ok = passed _ none new a in
+      let (given, fits) = open-accepted p fair label next rule full live .0 ok in
+      let sets = opening-sets T f (given .table) (given .few) (live .words) fits in
+      rw ok (record {
+        fresh = refl;
+        holds = opening-rule T f (given .table) (given .few) (live .words) fits;
+        lamp = shown-by T f (given .table) (given .few) _ sets;
+      })
+
+  -- THE LAMP of a look, for any state
+  pub look-any : (m : Monitor) → Accepts (lookOf p fair label next rule m) → ShownBy T m (lookOf p fair label next rule m)
+  unfolding lookOf
+  look-any m a =
+      let ok = passed-look _ (modelOf m) a in
+      let (given, (keeps, breaks)) = look-accepted p fair label next rule full m .0 ok in
+      rw ok (shown-by T f (given .table) (given .few) m (both keeps breaks))
+    where
+      both : PairSet T f (sideOf m true) → PairSet T f (sideOf m false) → (b : Bool) → PairSet T f (sideOf m b)
+      both keeps breaks true = keeps
+      both keeps breaks false = breaks
+
+  -- THE STEP RULE, for any live set, state and event
+  pub step-any : (live : Pairs) (m : Monitor) (e : Event) → Accepts (stepOf p fair label next rule live m e .answer) → Stepped T f live m e (stepOf p fair label next rule live m e)
+  unfolding stepOf model.stepOf
+  step-any live m e a =
+      let new = model.stepOf T f (live .words) (modelOf m) (eventOf e) in
+      let ok = passed _ m new a in
+      let ((given, (fits, (keeps, breaks))), _) = step-accepted p fair label next rule full live m e .0 ok in
+      let sets = step-sets T f (given .table) (given .few) (live .words) fits (modelOf m) (both keeps breaks) (eventOf e) in
+      rw ok (record {
+        came = refl;
+        holds = step-rule T f (given .table) (given .few) (live .words) fits (modelOf m) (both keeps breaks) (eventOf e);
+        lamp = shown-by T f (given .table) (given .few) _ sets;
+      })
+    where
+      both : PairSet T f (sideOf m true) → PairSet T f (sideOf m false) → (b : Bool) → PairSet T f (sideOf m b)
+      both keeps breaks true = keeps
+      both keeps breaks false = breaks
+
+  -- A RESTART FLAG ON THE FIRST EVENT changes nothing, neither the answer nor the monitor, accepted or refused
+  pub first-flag : (live : Pairs) (m : Monitor) (e : Event) → m .seen ≡ false
+      → stepOf p fair label next rule live m e ≡ stepOf p fair label next rule live m (record { see = e .see; val = e .val; new = false })
+  unfolding stepOf
+  first-flag live m e first = ap (watched (stepChecked p fair label next rule live m e) m) (first-restart T f (live .words) (modelOf m) (eventOf e) first)
+
+  -- AT A LATER RESTART it plays no part how the pairs held were split: from two states that hold the same pairs the step goes to the same sets
+  pub restart-any : (live : Pairs) (m other : Monitor) (e : Event) → e .new ≡ true → m .seen ≡ true → other .seen ≡ true
+      → ((s v : ℕ) → ((b : Bool) × Sides m b s v) ↔ ((b : Bool) × Sides other b s v))
+      → Accepts (stepOf p fair label next rule live m e .answer) → Accepts (stepOf p fair label next rule live other e .answer) → (b : Bool) (s v : ℕ)
+      → inside (sideOf (stepOf p fair label next rule live m e .monitor) b) s v ≡ inside (sideOf (stepOf p fair label next rule live other e .monitor) b) s v
+  restart-any live m other e new came came' same a a' b s v =
+      says-same (Iff·trans (step-any live m e a .holds b s v) (turned m other came came' (λ s v. same s v .0), turned other m came' came (λ s v. same s v .1)))
+      (step-any live other e a' .holds b s v)
+    where
+      turned : (m other : Monitor) → m .seen ≡ true → other .seen ≡ true → ((s v : ℕ) → ((b : Bool) × Sides m b s v) → (b : Bool) × Sides other b s v)
+          → Stays T f (Of live) (Sides m) (m .seen) (eventOf e) b s v → Stays T f (Of live) (Sides other) (other .seen) (eventOf e) b s v
+      turned m other came came' held = rw (came, came', new) (λ (i, g, o). (i, g, split-anew T f (Sides m) (Sides other) held b s v o))
