@@ -1,4 +1,4 @@
-// The three files of the folder that a program is run in: plant.txt, rule.txt and log.txt, each read and checked in turn, up to the first refusal.
+// The three files of a folder: plant.txt, rule.txt and log.txt, each read and checked in turn, up to the first refusal.
 use answers::Outcome;
 use answers::Refusal;
 use files::File;
@@ -19,30 +19,30 @@ pub struct Given {
     pub len: usize,
 }
 
-pub fn read_given(text: &mut [u8]) -> Given
+pub fn read_given(folder: &[u8], text: &mut [u8]) -> Given
     ensures table { λ r. ⌜ Lent (r .table) ⌝ }
     ensures log { λ r. ⌜ Counts (r .len) (now (text .exit)) ⌝ }
 {
-    let read = read_plant();
+    let read = read_plant(folder);
     let outcome = read.outcome;
     let table = read.table;
     match outcome {
         Outcome::Refused(refusal) => none_of(refusal, table, Rule::empty(), text),
-        Outcome::Accepted => with_table(table, text),
+        Outcome::Accepted => with_table(folder, table, text),
     }
 }
 
-fn read_plant() -> TableRead
+fn read_plant(folder: &[u8]) -> TableRead
     ensures { λ r. ⌜ Lent (r .table) ⌝ }
 {
     let mut text = [0u8; File::PLANT];
-    let file = files::read_file(b"plant.txt", &mut text);
+    let file = files::read_in(folder, b"plant.txt", &mut text);
     let len = file.len;
     texts::read_plant(file.ok, &text[..len])
 }
 
 // rule.txt, and what follows.
-fn with_table(table: Table, text: &mut [u8]) -> Given
+fn with_table(folder: &[u8], table: Table, text: &mut [u8]) -> Given
     requires { ⌜ Lent table ⌝ }
     ensures table { λ r. ⌜ Lent (r .table) ⌝ }
     ensures log { λ r. ⌜ Counts (r .len) (now (text .exit)) ⌝ }
@@ -53,29 +53,35 @@ fn with_table(table: Table, text: &mut [u8]) -> Given
     let fair = table.fair;
     let label = table.label;
     let next = table.next;
-    let read = read_rule(plant, &fair[..just], &label[..states], &next[..states]);
+    let read = read_rule(
+        folder,
+        plant,
+        &fair[..just],
+        &label[..states],
+        &next[..states],
+    );
     let outcome = read.outcome;
     let rule = read.rule;
     match outcome {
         Outcome::Refused(refusal) => none_of(refusal, table, rule, text),
-        Outcome::Accepted => with_rule(table, rule, text),
+        Outcome::Accepted => with_rule(folder, table, rule, text),
     }
 }
 
-fn read_rule(plant: Plant, fair: &[u64], label: &[u16], next: &[u64]) -> RuleRead {
+fn read_rule(folder: &[u8], plant: Plant, fair: &[u64], label: &[u16], next: &[u64]) -> RuleRead {
     let mut text = [0u8; File::RULE];
-    let file = files::read_file(b"rule.txt", &mut text);
+    let file = files::read_in(folder, b"rule.txt", &mut text);
     let len = file.len;
     texts::read_rule(plant, fair, label, next, file.ok, &text[..len])
 }
 
 // log.txt, and its form.
-fn with_rule(table: Table, rule: Rule, text: &mut [u8]) -> Given
+fn with_rule(folder: &[u8], table: Table, rule: Rule, text: &mut [u8]) -> Given
     requires { ⌜ Lent table ⌝ }
     ensures table { λ r. ⌜ Lent (r .table) ⌝ }
     ensures log { λ r. ⌜ Counts (r .len) (now (text .exit)) ⌝ }
 {
-    let file = files::read_file(b"log.txt", text);
+    let file = files::read_in(folder, b"log.txt", text);
     let len = file.len;
     let plant = table.plant;
     let outcome = texts::check_log(file.ok, &text[..len], plant.props);

@@ -17,10 +17,17 @@ ghost use Prim.Native.Nat.{_≤_};
 ghost use lib.ListN.{length};
 ghost use Rattle.io.specs.Counts.{Counts};
 
-// The three files of the folder, as `program` reads them; a refusal is the whole output.
+// The folder that the argument names, or this one.
 pub fn run() {
+    let mut folder = io::buffer();
+    let len = files::asked_folder(&mut folder);
+    run_in(&folder[..len]);
+}
+
+// The three files of the folder, as `program` reads them; a refusal is the whole output.
+fn run_in(folder: &[u8]) {
     let mut text = [0u8; File::LOG];
-    let given = given::read_given(&mut text);
+    let given = given::read_given(folder, &mut text);
     let outcome = given.outcome;
     let table = given.table;
     let rule = given.rule;

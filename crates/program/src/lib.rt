@@ -1,15 +1,22 @@
-// The program: it reads the three files of the folder that it is run in, has its output filled in, and writes it. What it writes is `transcript`'s
-// to say; of what is read and written no contract can speak.
+// The program: it reads the three files of a folder, has its output filled in, and writes it. What it writes is `transcript`'s to say; of what is read and
+// written no contract can speak.
 use files::File;
 use libc::STDOUT_FILENO;
 
+// The folder that the argument names, or this one.
 pub fn run() {
+    let mut folder = io::buffer();
+    let len = files::asked_folder(&mut folder);
+    run_in(&folder[..len]);
+}
+
+pub fn run_in(folder: &[u8]) {
     let mut plant = [0u8; File::PLANT];
     let mut rule = [0u8; File::RULE];
     let mut log = [0u8; File::LOG];
-    let table = files::read_file(b"plant.txt", &mut plant);
-    let asked = files::read_file(b"rule.txt", &mut rule);
-    let events = files::read_file(b"log.txt", &mut log);
+    let table = files::read_in(folder, b"plant.txt", &mut plant);
+    let asked = files::read_in(folder, b"rule.txt", &mut rule);
+    let events = files::read_in(folder, b"log.txt", &mut log);
     let first = table.len;
     let second = asked.len;
     let third = events.len;

@@ -1,4 +1,0 @@
-// Seven temporal operators: 8.
-fn main() {
-    program::run();
-}
