@@ -66,7 +66,7 @@ module _ (T : Plant) (f : Formula) (A : AcceptedTable T) (small : Small f) (live
   unfolding holding
   holding-says b s v ls = rw (word-at (T .states) (λ s. Bool·beq (value f 0 (labelOf T s) v) b) s ls) (beq-says (value f 0 (labelOf T s) v) b)
 
-  -- the opening holds the live pairs at starting states, the first set those where the rule holds, the second the others
+  -- the opening holds the live pairs at starting states, each in the set that the rule's value there says
   pub opening-rule : (b : Bool) (s v : ℕ) → Says (inside (side (opening T f live) b) s v) (So (inside live s v) × Opens T f b s v)
   unfolding opensAt
   opening-rule b s v = rw (side-opening T f live b) (Iff·trans
@@ -124,7 +124,7 @@ module _ (T : Plant) (f : Formula) (A : AcceptedTable T) (small : Small f) (live
   pub opening-sets : (b : Bool) → PairSet T f (side (opening T f live) b)
   opening-sets b = record { long = rw (side-opening T f live b) (length-words n _); range = λ s v i. l .range s v (opening-rule b s v .0 i .0) }
 
--- a restart flag on the first event changes nothing
+-- at the first event the step is the same with the flag and without it (01, Meaning on a run)
 pub first-restart : (T : Plant) (f : Formula) (live : List ℕ) (m : Monitor) (e : Event) → m .seen ≡ false
     → stepOf T f live m e ≡ stepOf T f live m (record { seen = e .seen; new = false })
 unfolding stepOf keptOf sourceAt

@@ -45,7 +45,7 @@ abbrev pub noTable : Table
 noTable =
     record { plant = record { props = 0; states = 0; start = 0; just = 0 }; fair = replicate 4 0; label = replicate 64 0; next = replicate 64 0 }
 
--- a refusal gives its number and place and nothing else
+-- with a refusal the table beside it is empty, so nothing of the text is given away (01, Refusal numbers)
 abbrev pub refusedRead : Refusal → TableRead
 refusedRead r = record { outcome = Refused r; table = noTable }
 

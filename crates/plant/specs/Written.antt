@@ -34,7 +34,7 @@ unfoldable pub linesBelow : ℕ → (ℕ → List Slot) → List Slot
 linesBelow zero f = []
 linesBelow (suc n) f = linesBelow n f ++ f n
 
--- `props`, `states`, `start`, `just`, `j0` and up, then `label` and `next` for state 0, for state 1 and so on
+-- the lines in their order (01, The plant table): the four keys of the table, the fairness sets, and a label and a set of next states for each state
 abbrev pub tableSlots : Plant → List Slot
 tableSlots t =
     (word propsKey ++ countSlots 10 (t .props)) ++ ((word statesKey ++ countSlots 10 (t .states)) ++ ((word startKey ++ (hexSlots 16 (t .start) ++ lf))

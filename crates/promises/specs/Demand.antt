@@ -73,7 +73,7 @@ module _ (p : Plant) (fair label next : List ℕ) (rule : Rule) (given : Input p
     abbrev h : History
     h = since (map eventOf es)
 
-    -- the two sets hold exactly the pairs in which some agreeing run that keeps, or breaks, the rule can now be
+    -- a pair is in a set of the monitor exactly where some run of that set's kind agrees with the events and is at this pair now
     pub sets-exactly : (b : Bool) (s v : ℕ) → Says (inside (sideOf (watching.after p fair label next rule es .monitor) b) s v) (At T f b h s v)
     sets-exactly b s v = rw (after-model p fair label next rule given es legal) (log.log-sets T f (given .table) (given .few) (map eventOf es) b s v)
 

@@ -1,4 +1,4 @@
--- Where a rule's text ends: "one final LF dropped".
+-- Where the text of rule.txt ends: an LF that is its last byte is no part of it (01, Log and program).
 use Prim.Native.Nat.{ℕ, _-_}
 use mathlib.Core.Path.{_≡_, refl}
 use mathlib.Core.Bool.{Bool, true, false, cond}
