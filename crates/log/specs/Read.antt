@@ -12,7 +12,7 @@ use Rattle.answers.specs.declared.Refusal.{Refusal}
 use Rattle.answers.specs.declared.Outcome.the-variants.{Accepted, Refused}
 use Rattle.answers.specs.Paper.{refusedAt}
 
--- a refusal gives its number and place, and no line
+-- with a refusal no lines are counted
 abbrev pub refusedWith : Refusal → LogRead
 refusedWith r = record { outcome = Refused r; lines = 0 }
 

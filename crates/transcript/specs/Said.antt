@@ -29,7 +29,7 @@ use Rattle.transcript.specs.End.{endOf}
 use Rattle.transcript.specs.Place.{placedAt}
 use Rattle.transcript.specs.Lines.{linesText}
 
--- a file: its bytes, or that it can't be read or is over its size
+-- a file: its bytes; or it is missing, as one is that can't be read or is too long
 pub data File : Type 0 where
   bytes : List ℕ → File
   missing : File
