@@ -39,7 +39,7 @@ use Rattle.advance.specs.declared.Monitor.{Monitor}
 use Rattle.advance.specs.Held.{modelOf, eventOf}
 use Rattle.monitor.specs.declared.Watched.{Watched}
 use Rattle.monitor.specs.Calls.{none, lampOf, watched, lit, openOf, lookOf, stepChecked, stepOf}
-use Rattle.monitor.proofs.Promises.{lamp-paper, open-accepted, look-accepted, step-accepted}
+use Rattle.monitor.specs.Promises.{lamp-paper, open-accepted, look-accepted, step-accepted}
 use Rattle.watching.specs.Watching as watching
 use Rattle.promises.specs.Demand.{sideOf}
 

@@ -33,19 +33,16 @@ use Rattle.answers.specs.declared.Kind.the-variants.{Room, NoPair}
 use Rattle.answers.specs.declared.Outcome.{Outcome}
 use Rattle.answers.specs.declared.Outcome.the-variants.{Accepted}
 use Rattle.answers.specs.Paper.{refusedAt}
+use Rattle.answers.specs.Chain.{refusedAs, differ, unless, chain-accepts, chain-refuses, unless-accepts, unless-refuses}
 use Rattle.plant.specs.declared.Plant.{Plant}
-use Rattle.plant.specs.Table.{refusedAs}
-use Rattle.plant.specs.Check.{differ}
 use Rattle.syntax.specs.declared.Rule.{Rule}
 use Rattle.log.specs.declared.Event.{Event}
-use Rattle.checks.specs.Checks.{unless}
-use Rattle.checks.specs.Exactly.{chain-accepts, chain-refuses, unless-accepts, unless-refuses}
-use Rattle.checks.proofs.Input.{Input}
+use Rattle.checks.specs.Input.{Input}
 use Rattle.advance.specs.declared.Monitor.{Monitor}
 use Rattle.advance.specs.Held.{modelOf, eventOf}
 use Rattle.monitor.specs.declared.Watched.{Watched}
 use Rattle.monitor.specs.Calls.{lampOf, lit, lookOf, openOf}
-use Rattle.monitor.proofs.Promises.{look-accepted}
+use Rattle.monitor.specs.Promises.{look-accepted}
 use Rattle.watching.specs.Watching as watching
 use Rattle.watching.specs.Watching.{AllLegal, after-model}
 use Rattle.walk.specs.declared.Lengths.{Lengths}

@@ -31,7 +31,7 @@ use Rattle.reader.specs.Draft.{written}
 use Rattle.rule.specs.Reading.{unknown, unknownAt}
 use Rattle.log.specs.Legal.{legalOf}
 use Rattle.log.specs.Read.{logRead, eventAt}
-use Rattle.checks.specs.Checks.{formulaOf}
+use Rattle.syntax.specs.Value.{formulaOf}
 use Rattle.promises.specs.ThreeTexts.{shownFor, Said, saidBy, modelShown, texts-shown}
 
 -- ---- texts

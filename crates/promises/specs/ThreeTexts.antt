@@ -25,16 +25,16 @@ use Rattle.plant.specs.Promises.{lent-passes}
 use Rattle.syntax.specs.declared.Rule.{Rule}
 use Rattle.rule.specs.declared.RuleRead.{RuleRead}
 use Rattle.rule.specs.Reading.{ruleRead}
-use Rattle.rule.proofs.Promises.{accepted-exactly}
+use Rattle.rule.specs.Promises.{accepted-exactly}
 use Rattle.log.specs.declared.Event.{Event}
 use Rattle.log.specs.declared.LogRead.{LogRead}
 use Rattle.log.specs.Legal.{legalOf, legal-exactly}
 use Rattle.log.specs.Read.{logRead, eventAt}
-use Rattle.checks.specs.Checks.{formulaOf}
-use Rattle.checks.proofs.Input.{Input, given}
+use Rattle.syntax.specs.Value.{formulaOf}
+use Rattle.checks.specs.Input.{Input, given}
 use Rattle.advance.specs.Held.{eventOf}
 use Rattle.monitor.specs.declared.Watched.{Watched}
-use Rattle.monitor.proofs.Promises.{lamp-paper}
+use Rattle.monitor.specs.Promises.{lamp-paper}
 use Rattle.watching.specs.Watching.{after, AllLegal, after-model}
 
 -- ---- the calls
