@@ -1,11 +1,11 @@
--- What the other calls answer after accepted events (01, demand 3): `look` shows the lamp once more; and `witness`, lent a buffer of the room it asks for, writes a run of the asked
+-- What the other calls answer behind a log (01, demand 3): `look` shows the lamp once more; and `witness`, lent a buffer of the room it asks for, writes a run of the asked
 -- kind where there is one, and is refused by 13 where there is none.
 use Prim.Native.Nat.{ℕ, _≤_, _<_}
 use native.Mathlib.Omega.{arith}
-use mathlib.Core.Path.{_≡_, sym, ap, subst, _∙_}
+use mathlib.Core.Path.{_≡_, refl, sym, ap, subst, _∙_}
 use mathlib.Core.Logic.{_↔_, Iff·trans, inr}
-use mathlib.Core.Bool.{Bool, true, false, not}
-use mathlib.Core.List.{List, [], _++_, map}
+use mathlib.Core.Bool.{Bool, true, false, cond, not}
+use mathlib.Core.List.{List, [], _∷_, _++_, map}
 use lib.Dec.{ltb}
 use lib.ListN.{length}
 use borrow.Author.Tests.{le-ltb}
@@ -37,6 +37,7 @@ use Rattle.answers.specs.Chain.{refusedAs, differ, unless, chain-accepts, chain
 use Rattle.plant.specs.declared.Plant.{Plant}
 use Rattle.syntax.specs.declared.Rule.{Rule}
 use Rattle.log.specs.declared.Event.{Event}
+use Rattle.log.specs.Legal.{legalOf, legal-exactly}
 use Rattle.checks.specs.Input.{Input}
 use Rattle.advance.specs.declared.Monitor.{Monitor}
 use Rattle.advance.specs.Held.{modelOf, eventOf}
@@ -44,7 +45,7 @@ use Rattle.monitor.specs.declared.Watched.{Watched}
 use Rattle.monitor.specs.Calls.{lampOf, lit, lookOf, openOf}
 use Rattle.monitor.specs.Promises.{look-accepted}
 use Rattle.watching.specs.Watching as watching
-use Rattle.watching.specs.Watching.{AllLegal, after-model}
+use Rattle.watching.specs.Watching.{AllLegal, legalOnes, after-any, after-model}
 use Rattle.walk.specs.declared.Lengths.{Lengths}
 use Rattle.witness.specs.declared.Witnessed.{Witnessed}
 use Rattle.witness.specs.declared.Witnessed.the-variants as Answers
@@ -178,3 +179,25 @@ module _ (p : Plant) (fair label next : List ℕ) (rule : Rule) (given : Input p
   pub look-opened : let opened = openOf p fair label next rule (watching.live p fair label next rule) in lookOf p fair label next rule (opened .monitor) ≡ opened .answer
   unfolding watching.after
   look-opened = look-same [] tt
+
+  -- ---- with refused events among them
+
+  ones-legal : (es : List Event) → AllLegal p fair label next rule (legalOnes p fair label next rule es)
+  unfolding legalOnes
+  ones-legal [] = tt
+  ones-legal (e ∷ es) = by (ones-legal es) (legalOf e (p .props)) refl
+    where
+      by : AllLegal p fair label next rule (legalOnes p fair label next rule es) → (b : Bool) → legalOf e (p .props) ≡ b
+          → AllLegal p fair label next rule (cond b (e ∷ legalOnes p fair label next rule es) (legalOnes p fair label next rule es))
+      by rest true l = (legal-exactly T e .0 l .1, rest)
+      by rest false l = rest
+
+  -- whatever events came, the monitor is the one behind those accepted. So what is said above holds of it
+  pub monitor-any : (es : List Event) → watching.after p fair label next rule es .monitor ≡ watching.after p fair label next rule (legalOnes p fair label next rule es) .monitor
+  monitor-any es =
+      let ones = legalOnes p fair label next rule es in
+      after-any p fair label next rule given es ∙ sym (ap (λ (w : Watched). w .monitor) (after-model p fair label next rule given ones (ones-legal es)))
+
+  -- and a look shows the lamp of the last accepted call
+  pub look-any : (es : List Event) → lookOf p fair label next rule (watching.after p fair label next rule es .monitor) ≡ watching.after p fair label next rule (legalOnes p fair label next rule es) .answer
+  look-any es = ap (lookOf p fair label next rule) (monitor-any es) ∙ look-same (legalOnes p fair label next rule es) (ones-legal es)
