@@ -17,7 +17,7 @@ use Rattle.text.specs.Count.{counted}
 use Rattle.text.specs.Many.{slotsBelow}
 use Rattle.text.specs.Written.{textOf, smallOf}
 use Rattle.text.specs.Place.{Fills, OfForm, RefusedAt, refused-one}
-use Rattle.text.specs.Promises.{WrittenOut, written-small, filled-out, of-form-out, out-one}
+use Rattle.text.specs.Promises.{WrittenOut, written-small, filled-out, of-form-out, value-one, out-one}
 use Rattle.text.specs.Lines.{lines, first-line}
 use Rattle.text.specs.LinesRead.{Told, lined, misfit, told}
 use Rattle.log.specs.declared.Event.{Event}
@@ -96,7 +96,7 @@ small-read w es s ok f = by-case (reading w s)
   where
     by-case : Reading w s → (logRead w s ≡ acceptedLog (length es)) × ((k : ℕ) → eventAt w s k ≡ getD es k nothing)
     by-case (accepted fs ok′ e r at) =
-        let same : fs ≡ es = sym (log-whole w .exact fs s (all-ok w fs .1 ok′) (fills-log w fs s .1 e)) ∙ log-whole w .exact es s (all-ok w es .1 ok) (fills-log w es s .1 f) in
+        let same : fs ≡ es = value-one (log-out w) (log-whole w) fs es s ok′ ok e f in
         (r ∙ ap (λ (x : List Event). acceptedLog (length x)) same, λ k. at k ∙ ap (λ (x : List Event). getD x k nothing) same)
     by-case (misformed i p r) = absurd (p .not-of-form (record { value = es; ok = all-ok w es .1 ok; fills = fills-log w es s .1 f }))
 

@@ -8,12 +8,9 @@ use lib.ListN.{length, getD}
 use lib.Seq.{ext-getD}
 use Rattle.words.specs.Folds.{count-same}
 use Rattle.words.specs.Truth.{says-same}
-use Rattle.text.specs.Slot.{Slot}
-use Rattle.text.specs.Form.{Form}
 use Rattle.text.specs.Number.{widthOf}
-use Rattle.text.specs.Written.{textOf, smallOf}
-use Rattle.text.specs.Place.{Whole, reads-whole}
-use Rattle.text.specs.Promises.{WrittenOut, filled-out}
+use Rattle.text.specs.Place.{reads-whole}
+use Rattle.text.specs.Promises.{value-one}
 use Rattle.text.specs.Cases.{below-or-beyond}
 use Rattle.meaning.specs.Formula.{Formula}
 use Rattle.meaning.specs.Run.{Plant}
@@ -46,16 +43,10 @@ use Rattle.promises.specs.FrontDoor.{SaysTable, SaysRule, SaysLog, Ends,
 
 -- ---- what files say
 
--- a text is, its digits made small, the one written for one value
-value-one :
-    {A : Type 0} {F : Form A} {Well : A → Type 0} {out : A → List Slot} → WrittenOut F Well out → Whole F → (a b : A) {s r : List ℕ} → bytes s ≡ bytes r → Well a → Well b
-    → smallOf (out a) s ≡ textOf (out a) → smallOf (out b) r ≡ textOf (out b) → a ≡ b
-value-one {F = F} w reads a b {s} {r} same ok ok' e e' =
-    sym (reads .exact a s (w .well a .1 ok) (filled-out w a s .1 e)) ∙ ap (λ (x : File). F .guess (bytesOf x)) same ∙ reads .exact b r (w .well b .1 ok') (filled-out w b r .1 e')
-
 pub table-one : {plant : File} {t u : Plant} → AcceptedTable t → AcceptedTable u → SaysTable plant t → SaysTable plant u → t ≡ u
 table-one {t = t} {u = u} a b says says' =
-    value-one table-out (reads-whole table-reads) t u (sym (says .is) ∙ says' .is) (accepted-formed t a) (accepted-formed u b) (says .said) (says' .said)
+    let same : says .text ≡ says' .text = ap bytesOf (sym (says .is) ∙ says' .is) in
+    value-one table-out (reads-whole table-reads) t u (says' .text) (accepted-formed t a) (accepted-formed u b) (rw same at (says .said)) (says' .said)
 
 pub rule-one : {rule : File} {q : ℕ} {f g : Formula} → SaysRule rule q f → SaysRule rule q g → f ≡ g
 rule-one {rule} {q} {f} {g} a b = one-tree (b .text) f g (subst (SaidBy f) (sym (text-is a) ∙ text-is b) (a .said)) (b .said)
@@ -65,7 +56,8 @@ rule-one {rule} {q} {f} {g} a b = one-tree (b .text) f g (subst (SaidBy f) (sym 
 
 pub log-one : {log : File} {q : ℕ} {es fs : List Event} → SaysLog log q es → SaysLog log q fs → es ≡ fs
 log-one {q = q} {es = es} {fs = fs} says says' =
-    value-one (log-out (widthOf q)) (log-whole (widthOf q)) es fs (sym (says .is) ∙ says' .is) (says .writable) (says' .writable) (says .said) (says' .said)
+    let same : says .text ≡ says' .text = ap bytesOf (sym (says .is) ∙ says' .is) in
+    value-one (log-out (widthOf q)) (log-whole (widthOf q)) es fs (says' .text) (says .writable) (says' .writable) (rw same at (says .said)) (says' .said)
 
 -- ---- what is shown
 

@@ -79,6 +79,10 @@ module _ {A : Type 0} {F : Form A} {Well : A → Type 0} {out : A → List Slot}
     λ (a, ok, e). record { value = a; ok = w .well a .1 ok; fills = filled-out a s .1 e },
   )
 
+  -- a text is, its digits made small, the one written for one value
+  pub value-one : Whole F → (a b : A) (s : List ℕ) → Well a → Well b → smallOf (out a) s ≡ textOf (out a) → smallOf (out b) s ≡ textOf (out b) → a ≡ b
+  value-one reads a b s ok ok′ e e′ = sym (reads .exact a s (w .well a .1 ok) (filled-out a s .1 e)) ∙ reads .exact b s (w .well b .1 ok′) (filled-out b s .1 e′)
+
   pub out-one : Whole F → (a b : A) → Well a → Well b → textOf (out a) ≡ textOf (out b) → a ≡ b
   out-one reads a b ok ok′ e =
       written-one reads a b (w .well a .1 ok) (w .well b .1 ok′) (ap textOf (w .slots-are a) ∙ e ∙ ap textOf (sym (w .slots-are b)))
