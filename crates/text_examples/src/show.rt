@@ -8,12 +8,6 @@ pub fn put(bytes: &[u8]) {
     io::write_all(STDOUT_FILENO, bytes);
 }
 
-pub fn heading(name: &[u8]) {
-    put(b"-- ");
-    put(name);
-    end();
-}
-
 pub fn digits(n: usize) {
     io::print_decimal(STDOUT_FILENO, n as u64);
 }
@@ -114,13 +108,18 @@ pub fn log(text: &[u8], props: usize) {
     end();
 }
 
+// Number k of the case.
+fn told(text: &[u8], k: usize) -> usize {
+    cases::number(cases::field(text, b' ', k))
+}
+
 // The outcome for counts handed in, beside the parts of a table of one state with four fairness sets.
-pub fn handed(props: usize, states: usize, start: u64, just: usize) {
+pub fn handed(text: &[u8]) {
     let plant = Plant {
-        props,
-        states,
-        start,
-        just,
+        props: told(text, 0),
+        states: told(text, 1),
+        start: told(text, 2) as u64,
+        just: told(text, 3),
     };
     let fair = [1u64; 4];
     let label = [1u16; 1];
@@ -130,16 +129,18 @@ pub fn handed(props: usize, states: usize, start: u64, just: usize) {
     end();
 }
 
-pub fn legal(see: u16, val: u16, props: usize) {
-    digits(see as usize);
-    number(b" ", val as usize);
-    number(b" ", props);
+// A number of the case, as a set of propositions.
+fn set_told(text: &[u8], k: usize) -> u16 {
+    (told(text, k) % 65536) as u16
+}
+
+pub fn legal(text: &[u8]) {
     let event = Event {
-        see,
-        val,
+        see: set_told(text, 0),
+        val: set_told(text, 1),
         new: false,
     };
-    if log::is_legal(event, props) {
+    if log::is_legal(event, told(text, 2)) {
         put(b" legal\n");
     } else {
         put(b" not legal\n");

@@ -6,8 +6,8 @@ use borrow.Author.Needs.{needs}
 use Rattle.rule_examples.proofs.show.Statement.{statement}
 use Rattle.rule_examples.proofs.show.Tie as tie
 
-slice-aggregate-write-all : tie.Need-slice-aggregate-write-all
-slice-aggregate-write-all c = let a = c .before .before .before .args in sym (length-take-le (a .n) (a .text .now) (omega arith))
+slice-aggregate-put : tie.Need-slice-aggregate-put
+slice-aggregate-put c = let a = c .before .before .before .args in sym (length-take-le (a .n) (a .text .now) (omega arith))
 
 pub show-spec : {M : Type 1} → statement M
-show-spec = tie.close (tie.spec slice-aggregate-write-all (λ c κs. search needs) (λ c. search needs) (λ c κs. search needs) (λ c. search needs) (λ c. search needs))
+show-spec = tie.close (tie.spec slice-aggregate-put (λ c κs. search needs) (λ c. search needs) (λ c κs. search needs) (λ c. search needs) (λ c. search needs))

@@ -1,9 +1,9 @@
--- `text_examples::cases::with_byte`. What is written is within the copy.
+-- `text_examples::kinds::with_byte`. What is written is within the copy.
 use Prim.Native.Nat.{_-_, _≤_}
 use lib.ListN.{length}
 use borrow.Author.Needs.{needs}
-use Rattle.text_examples.proofs.cases.with_byte.Statement.{statement}
-use Rattle.text_examples.proofs.cases.with_byte.Tie as tie
+use Rattle.text_examples.proofs.kinds.with_byte.Statement.{statement}
+use Rattle.text_examples.proofs.kinds.with_byte.Tie as tie
 
 abbrev Inv-loop : tie.InvT-loop
 Inv-loop text at byte copy₀ i₀ copy i = i ≤ length text

@@ -1,10 +1,10 @@
--- `text_examples::cases::changes`. Each byte is within the text.
+-- `text_examples::kinds::changes`. Each byte is within the text.
 use Prim.Native.Nat.{_-_, _≤_}
 use lib.ListN.{length}
 use native.Mathlib.Omega.{arith}
 use borrow.Author.Needs.{needs}
-use Rattle.text_examples.proofs.cases.changes.Statement.{statement}
-use Rattle.text_examples.proofs.cases.changes.Tie as tie
+use Rattle.text_examples.proofs.kinds.changes.Statement.{statement}
+use Rattle.text_examples.proofs.kinds.changes.Tie as tie
 
 abbrev Inv-loop : tie.InvT-loop
 Inv-loop text is-log strange at₀ at = at ≤ length text

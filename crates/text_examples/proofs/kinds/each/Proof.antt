@@ -1,9 +1,9 @@
--- `text_examples::cases::each`. Each case is within the input.
+-- `text_examples::kinds::each`. Each case is within the input.
 use Prim.Native.Nat.{_-_, _≤_}
 use lib.ListN.{length}
 use borrow.Author.Needs.{needs}
-use Rattle.text_examples.proofs.cases.each.Statement.{statement}
-use Rattle.text_examples.proofs.cases.each.Tie as tie
+use Rattle.text_examples.proofs.kinds.each.Statement.{statement}
+use Rattle.text_examples.proofs.kinds.each.Tie as tie
 
 abbrev Inv-loop : tie.InvT-loop
 Inv-loop input at₀ at = at ≤ length input

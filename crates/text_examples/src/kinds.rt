@@ -1,5 +1,6 @@
-// The cases of the input, each a letter, a text and `#`: `t` a table's text; `T` the same, with the table shown; `l` a log's; `p` and `c` a table's text damaged in each
-// way: its prefixes, each byte changed; `q` and `d` a log's.
+// The cases of the input, each a letter, a text and `#`: `t` a table's text; `T` the same, with the table shown; `l` a log's for 8 propositions, `L` for 9; `p` and `c` a
+// table's text damaged in each way: its prefixes, each byte changed; `q` and `d` a log's. `h` a table handed in, by props, states, start and just; `e` an event, by see,
+// val and props: numbers with a space between two.
 use crate::show;
 use crate::show::digits;
 use crate::show::end;
@@ -85,6 +86,8 @@ fn case(kind: u8, text: &[u8]) {
         b'c' => changes(text, false),
         b'q' => prefixes(text, true),
         b'd' => changes(text, true),
+        b'h' => show::handed(text),
+        b'e' => show::legal(text),
         _ => put(b"no case\n"),
     }
 }

@@ -1,11 +1,11 @@
--- `text_examples::cases::changed`. What is read is within the copy.
+-- `text_examples::kinds::changed`. What is read is within the copy.
 use mathlib.Core.Path.{_≡_, sym}
 use native.Mathlib.Omega.{arith}
 use lib.ListN.{length}
 use lib.Seq.{length-take-le}
 use borrow.Author.Needs.{needs}
-use Rattle.text_examples.proofs.cases.changed.Statement.{statement}
-use Rattle.text_examples.proofs.cases.changed.Tie as tie
+use Rattle.text_examples.proofs.kinds.changed.Statement.{statement}
+use Rattle.text_examples.proofs.kinds.changed.Tie as tie
 
 slice-aggregate-outcome-of : tie.Need-slice-aggregate-outcome-of
 slice-aggregate-outcome-of c =

@@ -1,11 +1,11 @@
--- `text_examples::cases::prefixes`. Each prefix is within the text.
+-- `text_examples::kinds::prefixes`. Each prefix is within the text.
 use Prim.Native.Nat.{_-_, _≤_}
 use mathlib.Core.Path.{sym}
 use lib.ListN.{length}
 use lib.Seq.{length-take-le}
 use borrow.Author.Needs.{needs}
-use Rattle.text_examples.proofs.cases.prefixes.Statement.{statement}
-use Rattle.text_examples.proofs.cases.prefixes.Tie as tie
+use Rattle.text_examples.proofs.kinds.prefixes.Statement.{statement}
+use Rattle.text_examples.proofs.kinds.prefixes.Tie as tie
 
 abbrev Inv-loop : tie.InvT-loop
 Inv-loop text is-log n₀ n = n ≤ length text
