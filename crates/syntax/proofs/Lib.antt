@@ -10,6 +10,5 @@ pub mod OnePlace
 pub mod Stable
 pub mod Parse
 pub mod Printed
-mod Examples
 pub mod Whole
 pub mod Values

@@ -5,3 +5,4 @@ pub mod Print
 pub mod Bytes
 pub mod Reader
 pub mod Scan
+mod Examples

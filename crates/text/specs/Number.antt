@@ -1,6 +1,7 @@
 -- Numbers in a text: hexadecimal of a width, and decimal counts below 100.
 use Prim.Native.Nat.{ℕ, zero, suc, _+_, _*_, _/_, _%_, _≤_}
-use mathlib.Core.Bool.{Bool, true, false, cond, _||_}
+use mathlib.Core.Path.{_≡_}
+use mathlib.Core.Bool.{Bool, true, false, So, cond, _||_}
 use native.Mathlib.Omega.{arith}
 use mathlib.Core.List.{List, [], _∷_, _++_}
 use lib.Dec.{ltb}
@@ -51,6 +52,20 @@ countSlots end n = digit (leadOf n) ∷ nextOf end n ∷ lastOf end n
 unfoldable pub countOf : ℕ → ℕ → ℕ → ℕ → ℕ
 countOf lo hi d e =
     cond ((ltb d lo || ltb 9 d) || ltb hi d) lo (cond ((ltb d 1 || ltb 9 e) || ltb hi (d * 10 + e)) d (d * 10 + e))
+
+-- its cases
+pub count-none : (lo hi d e : ℕ) → So ((ltb d lo || ltb 9 d) || ltb hi d) → countOf lo hi d e ≡ lo
+unfolding countOf
+count-none lo hi d e out = rw out
+
+module _ (lo hi d e : ℕ) (one : ((ltb d lo || ltb 9 d) || ltb hi d) ≡ false) where
+  pub count-one : So ((ltb d 1 || ltb 9 e) || ltb hi (d * 10 + e)) → countOf lo hi d e ≡ d
+  unfolding countOf
+  count-one out = rw (one, out)
+
+  pub count-two : ((ltb d 1 || ltb 9 e) || ltb hi (d * 10 + e)) ≡ false → countOf lo hi d e ≡ d * 10 + e
+  unfolding countOf
+  count-two two = rw (one, two)
 
 -- the count that a text begins with
 abbrev pub countGuess : ℕ → ℕ → List ℕ → ℕ

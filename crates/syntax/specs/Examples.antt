@@ -1,7 +1,7 @@
 -- The worked examples of 01, computed.
 use mathlib.Core.Path.{_≡_, refl}
 use mathlib.Core.List.{[], _∷_}
-use Rattle.meaning.specs.Formula.{prop, neg, until, and}
+use Rattle.meaning.specs.Formula.{prop, neg, until, and, implies}
 use Rattle.syntax.specs.declared.Scan.the-variants.{Good, Bad}
 use Rattle.syntax.specs.Bytes.{signOf, leafOf, nameOf, nameBytes, lexSign, lex}
 use Rattle.syntax.specs.Grammar.{spell}
@@ -119,3 +119,12 @@ parse-4 = refl
 print-4 : print (until (prop 1) (prop 10)) ≡ 40 ∷ 112 ∷ 49 ∷ 85 ∷ 112 ∷ 49 ∷ 48 ∷ 41 ∷ []
 unfolding print spell
 print-4 = refl
+
+-- `p0->p1->p0` prints `(p0->(p1->p0))`
+parse-5 : parse (112 ∷ 48 ∷ 45 ∷ 62 ∷ 112 ∷ 49 ∷ 45 ∷ 62 ∷ 112 ∷ 48 ∷ []) ≡ postfix (implies (prop 0) (implies (prop 1) (prop 0)))
+unfolding parse read more lex lexSign signOf leafOf nameOf nameBytes head tail postfix
+parse-5 = refl
+
+print-5 : print (implies (prop 0) (implies (prop 1) (prop 0))) ≡ 40 ∷ 112 ∷ 48 ∷ 45 ∷ 62 ∷ 40 ∷ 112 ∷ 49 ∷ 45 ∷ 62 ∷ 112 ∷ 48 ∷ 41 ∷ 41 ∷ []
+unfolding print spell
+print-5 = refl
