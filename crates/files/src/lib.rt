@@ -12,6 +12,13 @@ pub struct File {
     pub len: usize,
 }
 
+// How many bytes the three files have.
+pub struct Sizes {
+    pub plant: usize,
+    pub rule: usize,
+    pub log: usize,
+}
+
 // The most bytes of plant.txt, rule.txt and log.txt.
 impl File {
     pub const PLANT: usize = 2477;
@@ -19,6 +26,16 @@ impl File {
     pub const RULE: usize = 513;
 
     pub const LOG: usize = 65520;
+
+    pub fn most() -> Sizes
+        ensures { λ r. ⌜ (r .plant ≡ 2477) × (r .rule ≡ 513) × (r .log ≡ 65520) ⌝ }
+    {
+        Sizes {
+            plant: File::PLANT,
+            rule: File::RULE,
+            log: File::LOG,
+        }
+    }
 }
 
 // The folder that the program's argument names, and without an argument the one that it is run in. One that is empty, or longer than a

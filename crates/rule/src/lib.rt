@@ -42,6 +42,19 @@ pub struct Length {
     pub bytes: usize,
 }
 
+impl Length {
+    // The most bytes of a printed rule: a buffer of so many has room for any.
+    pub const MOST: usize = 109;
+
+    pub fn most() -> Self
+        ensures { λ r. ⌜ r .bytes ≡ 109 ⌝ }
+    {
+        Length {
+            bytes: Length::MOST,
+        }
+    }
+}
+
 pub enum Printed {
     Text(Length),
     Refused(Refusal),
