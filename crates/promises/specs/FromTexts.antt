@@ -1,9 +1,10 @@
 -- From texts to lamps: the readers give what the texts say, and the calls show the rest. Here are the two claims of FrontDoor proved.
-use Prim.Native.Nat.{ℕ}
+use Prim.Native.Nat.{ℕ, _≤_, _<_}
+use native.Mathlib.Omega.{arith}
 use mathlib.Core.Path.{_≡_, refl, sym, ap, subst, _∙_}
 use mathlib.Core.Bool.{Bool, true, false, cond}
 use mathlib.Core.List.{List, _++_}
-use mathlib.Core.Logic.{inl, inr, ⊎-elim}
+use mathlib.Core.Logic.{_↔_, inl, inr, ⊎-elim}
 use lib.Dec.{ltb}
 use lib.ListN.{length, getD}
 use Rattle.meaning.specs.Formula.{Formula}
@@ -11,7 +12,9 @@ use Rattle.meaning.specs.Run as run
 use Rattle.meaning.specs.Limits.{AcceptedTable, mostNodes, mostParts}
 use Rattle.text.specs.Number.{widthOf}
 use Rattle.text.specs.Written.{smallOf}
-use Rattle.text.specs.Place.{Fills}
+use Rattle.text.specs.Place.{Fills, OfForm, RefusedAt}
+use Rattle.text.specs.Form.{Form}
+use Rattle.text.specs.Cases.{below-or-beyond}
 use Rattle.text.specs.Promises.{filled-out}
 use Rattle.text.specs.Many.{below-length}
 use Rattle.text.specs.Lines.{lines, all-begun}
@@ -52,7 +55,7 @@ use Rattle.checks.specs.Input.{Input, given, formula-is}
 use Rattle.report.specs.Text.{lf}
 use Rattle.transcript.specs.Said as said
 use Rattle.transcript.specs.Said.{File, bytes, missing, outputOf}
-use Rattle.promises.specs.FrontDoor.{SaysTable, SaysRule, SaysLog, Shows, OfLog, lamps, no-log, log-refused, OfRule, rule-said, no-rule, rule-refused, Output, table-said, no-plant, table-refused, bit-beyond, FrontDoor, EveryOutput}
+use Rattle.promises.specs.FrontDoor.{SaysTable, SaysRule, SaysLog, StopsAt, Shows, OfLog, lamps, no-log, log-refused, OfRule, rule-said, no-rule, rule-refused, Output, table-said, no-plant, table-refused, bit-beyond, FrontDoor, EveryOutput}
 use Rattle.promises.specs.Lamps.{Taken, played}
 use Rattle.promises.specs.RuleEnd.{stripped, end-said, end-dropped, end-or}
 
@@ -72,6 +75,16 @@ log-taken {log} {q} {es} says = let read = small-read (widthOf q) es (says .text
       accepts = ap (λ (r : LogRead). r .outcome) (read .0);
       events = read .1;
       many = lines-many (widthOf q) es (says .text) (says .writable) (filled-out (log-out (widthOf q)) es (says .text) .1 (says .said));
+    }
+
+-- where a form refuses a text, said by the texts of the form alone
+stops : {A : Type 0} {F : Form A} {Of : List ℕ → Type 0} {s : List ℕ} {i : ℕ} → ((s : List ℕ) → OfForm F s ↔ Of s) → RefusedAt F s i → StopsAt Of s i
+stops {s} {i} same r =
+    record {
+      outside = λ x. r .not-of-form (same s .1 x);
+      before = let v = r .viable i (omega arith) in (v .rest, same _ .0 (v .of-form));
+      here = ⊎-elim (λ (l : i < length s). inr (l, λ (rest, x). r .stops l (record { rest = rest; of-form = same _ .1 x })))
+          (λ (l : length s ≤ i). inl (omega (arith, r .within))) (below-or-beyond i (length s));
     }
 
 module _ (t : run.Plant) (table : AcceptedTable t) where
@@ -186,7 +199,7 @@ module _ (plant : File) (t : run.Plant) (says : SaysTable plant t) (table : Acce
         by (logs.accepted es ok small r at) =
             let log-says : SaysLog (bytes text) (t .props) es = record { text = text; is = refl; said = small; writable = ok } in
             lamps es log-says (front-door plant rule (bytes text) t f es says table rule-says log-says)
-        by (logs.misformed i p r) = log-refused text i refl p (behind-both (bytes text) ∙ rw (ap (λ (x : LogRead). x .outcome) r) refl)
+        by (logs.misformed i p r) = log-refused text i refl (stops (logs.form-exactly (widthOf (t .props))) p) (behind-both (bytes text) ∙ rw (ap (λ (x : LogRead). x .outcome) r) refl)
 
   of-rule : (rule log : File) → OfRule t rule log (outputOf plant rule log)
   unfolding said.ruleText
@@ -221,4 +234,4 @@ every-output (bytes text) rule log = by (plants.reading text)
     by : plants.Reading text → Output (bytes text) rule log (outputOf (bytes text) rule log)
     by (plants.accepted t table small r) = let says = table-says t small in table-said t says table (of-rule (bytes text) t says table rule log)
     by (plants.beyond t formed b small r) = bit-beyond t (table-says t small) formed b (rw r refl)
-    by (plants.misformed i p r) = table-refused text i refl p (rw r refl)
+    by (plants.misformed i p r) = table-refused text i refl (stops plants.form-exactly p) (rw r refl)

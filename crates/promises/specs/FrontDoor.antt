@@ -14,7 +14,6 @@ use Rattle.meaning.specs.Event.{since}
 use Rattle.meaning.specs.Limits.{AcceptedTable, Legal, mostNodes, mostParts}
 use Rattle.text.specs.Number.{widthOf}
 use Rattle.text.specs.Written.{smallOf}
-use Rattle.text.specs.Place.{RefusedAt}
 use Rattle.text.specs.Lines.{lineStart}
 use Rattle.answers.specs.declared.Kind.{Kind}
 use Rattle.answers.specs.declared.Kind.the-variants.{Bits, TableText, LogText, Event as EventKind, File as FileKind}
@@ -22,7 +21,6 @@ use Rattle.answers.specs.declared.Lamp.{Lamp}
 use Rattle.answers.specs.declared.Answer.the-variants.{Shown}
 use Rattle.answers.specs.Paper.{refusedAt}
 use Rattle.plant.specs.Table.{BitBeyond}
-use Rattle.plant.specs.Text.{tableForm}
 use Rattle.plant.specs.Read.{countsIn}
 use Rattle.plant.specs.Written.{WellFormed, tableSlots, tableText}
 use Rattle.syntax.specs.Grammar.{longestRule, SaidBy}
@@ -31,7 +29,7 @@ use Rattle.rule.specs.Paper.{Because}
 use Rattle.log.specs.declared.Event.{Event}
 use Rattle.log.specs.Legal.{seenOf}
 use Rattle.log.specs.Line.{lineBytes}
-use Rattle.log.specs.Log.{nothing, logForm}
+use Rattle.log.specs.Log.{nothing}
 use Rattle.log.specs.Promises.{AllWritable, logSlots, logText}
 use Rattle.advance.specs.Held.{eventOf}
 use Rattle.report.specs.Text.{startText, refusedText, lf}
@@ -64,6 +62,25 @@ pub record SaysLog (log : File) (q : ℕ) (es : List Event) : Type 0 where
   pub is : log ≡ bytes text
   pub said : smallOf (logSlots (widthOf q) es) text ≡ logText (widthOf q) es
   pub writable : AllWritable (widthOf q) es
+
+-- ---- where a text that says nothing is refused
+
+-- the texts of tables, of which each is, the digits made small, the one written for a table; and those of logs for q propositions
+abbrev pub IsTable : List ℕ → Type 0
+IsTable s = (t : Plant) × WellFormed t × (smallOf (tableSlots t) s ≡ tableText t)
+
+abbrev pub IsLog : ℕ → List ℕ → Type 0
+IsLog q s = (es : List Event) × AllWritable (widthOf q) es × (smallOf (logSlots (widthOf q) es) s ≡ logText (widthOf q) es)
+
+-- p begins a text of that kind
+abbrev pub Begins : (List ℕ → Type 0) → List ℕ → Type 0
+Begins Of p = (rest : List ℕ) × Of (p ++ rest)
+
+-- s is none: what stands before place i begins one, and with the byte there it no longer does, or there is no byte
+pub record StopsAt (Of : List ℕ → Type 0) (s : List ℕ) (i : ℕ) : Type 0 where
+  pub outside : Of s → ⊥
+  pub before : Begins Of (take i s)
+  pub here : (i ≡ length s) ⊎ ((i < length s) × (Begins Of (take (suc i) s) → ⊥))
 
 -- ---- what is shown of them
 
@@ -104,7 +121,7 @@ pub record Shows (t : Plant) (f : Formula) (es : List Event) (output : List ℕ)
 pub data OfLog (t : Plant) (f : Formula) (log : File) (output : List ℕ) : Type 0 where
   lamps : (es : List Event) → SaysLog log (t .props) es → Shows t f es output → OfLog t f log output
   no-log : log ≡ missing → output ≡ refused FileKind 0 → OfLog t f log output
-  log-refused : (text : List ℕ) (i : ℕ) → log ≡ bytes text → RefusedAt (logForm (widthOf (t .props))) text i → output ≡ refused LogText i → OfLog t f log output
+  log-refused : (text : List ℕ) (i : ℕ) → log ≡ bytes text → StopsAt (IsLog (t .props)) text i → output ≡ refused LogText i → OfLog t f log output
 
 -- rule.txt, behind a table: a rule, or no file (14), or one of the reasons for 4 to 8, of the text with one final LF dropped
 pub data OfRule (t : Plant) (rule log : File) (output : List ℕ) : Type 0 where
@@ -117,7 +134,7 @@ pub data OfRule (t : Plant) (rule log : File) (output : List ℕ) : Type 0 where
 pub data Output (plant rule log : File) (output : List ℕ) : Type 0 where
   table-said : (t : Plant) → SaysTable plant t → AcceptedTable t → OfRule t rule log output → Output plant rule log output
   no-plant : plant ≡ missing → output ≡ refused FileKind 0 → Output plant rule log output
-  table-refused : (text : List ℕ) (i : ℕ) → plant ≡ bytes text → RefusedAt tableForm text i → output ≡ refused TableText i → Output plant rule log output
+  table-refused : (text : List ℕ) (i : ℕ) → plant ≡ bytes text → StopsAt IsTable text i → output ≡ refused TableText i → Output plant rule log output
   bit-beyond : (t : Plant) → SaysTable plant t → WellFormed t → BitBeyond (countsIn t) (t .fair) (t .label) (t .next) → output ≡ refused Bits 0 → Output plant rule log output
 
 -- ---- the claims

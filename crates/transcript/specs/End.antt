@@ -5,10 +5,18 @@ use mathlib.Core.Bool.{Bool, true, false, cond}
 use mathlib.Core.List.{List}
 use lib.Dec.{eqb}
 use lib.ListN.{length, getD}
+use borrow.Author.Tests.{eq-eqb, ne-eqb}
 
 -- the length, or one less where the last byte is LF
 abbrev pub endOf : List ℕ → ℕ
 endOf t = cond (eqb (getD t (length t - 1) 0) 10) (length t - 1) (length t)
+
+-- behind LF the length is one less, and behind any other byte it stays
+pub end-dropped : (t : List ℕ) → getD t (length t - 1) 0 ≡ 10 → length t - 1 ≡ endOf t
+end-dropped t e = rw (eq-eqb _ _ e) refl
+
+pub end-kept : (t : List ℕ) → (getD t (length t - 1) 0 ≡ 10 → ⊥) → length t ≡ endOf t
+end-kept t n = rw (ne-eqb _ _ n) refl
 
 -- an empty text has no end to drop
 pub end-empty : (t : List ℕ) → length t ≡ 0 → 0 ≡ endOf t

@@ -1,11 +1,9 @@
 -- `texts::without_end` meets its contract: the length, or one less.
 -- Assumes nothing.
 use borrow.Author.Needs.{needs}
-use borrow.Author.Tests.{eq-eqb, ne-eqb}
-use mathlib.Core.Path.{refl}
 use native.Mathlib.Omega.{arith}
 use Rattle.io.proofs.Counting.{counts}
-use Rattle.transcript.specs.End.{end-empty}
+use Rattle.transcript.specs.End.{end-dropped, end-kept, end-empty}
 use Rattle.transcript.proofs.texts.without_end.Statement.{statement}
 use Rattle.transcript.proofs.texts.without_end.Tie as tie
 
@@ -22,6 +20,6 @@ without-end-spec =
     -- sub-result
     (λ c. search needs)
     -- returns-2
-    (λ c. (simp (eq-eqb _ _ (c .if2 .taken)) refl, counts _ _ (omega arith)))
+    (λ c. (end-dropped (c .before .before .before .args .text .now) (c .if2 .taken), counts _ _ (omega arith)))
     -- returns-3
-    (λ c. (simp (ne-eqb _ _ (c .if2 .left)) refl, counts _ _ (omega arith))))
+    (λ c. (end-kept (c .before .before .before .args .text .now) (c .if2 .left), counts _ _ (omega arith))))
