@@ -7,7 +7,7 @@ use Rattle.log.proofs.is_legal.Tie as tie
 
 returns : tie.Need-returns
 unfolding legalOf
-returns c = rw (lt-leb 16 _ (c .if1 .taken))
+returns c = rw (lt-leb _ 16 (c .if1 .taken))
 
 returns-2 : tie.Need-returns-2
 unfolding legalOf
