@@ -1,3 +1,3 @@
 pub mod Held
 pub mod Sides
-pub mod Right
+pub mod SidesRight

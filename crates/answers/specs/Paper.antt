@@ -15,7 +15,7 @@ use Rattle.answers.specs.declared.Kind.the-variants.{
   Nodes,
   Parts,
   Value,
-  Event,
+  IllegalEvent,
   Room,
   LogText,
   NoPair,
@@ -53,7 +53,7 @@ kindNumber Proposition = 6
 kindNumber Nodes = 7
 kindNumber Parts = 8
 kindNumber Value = 9
-kindNumber Event = 10
+kindNumber IllegalEvent = 10
 kindNumber Room = 11
 kindNumber LogText = 12
 kindNumber NoPair = 13

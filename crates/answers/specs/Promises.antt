@@ -19,7 +19,7 @@ use Rattle.answers.specs.declared.Kind.the-variants.{
   Nodes,
   Parts,
   Value,
-  Event,
+  IllegalEvent,
   Room,
   LogText,
   NoPair,
@@ -48,7 +48,7 @@ verdicts = Inconclusive ∷ True ∷ False ∷ OutOfModel ∷ []
 
 abbrev kinds : List Kind
 kinds =
-    File ∷ Counts ∷ Bits ∷ TableText ∷ RuleLength ∷ RuleText ∷ Proposition ∷ Nodes ∷ Parts ∷ Value ∷ Event ∷ Room ∷ LogText ∷ NoPair ∷ []
+    File ∷ Counts ∷ Bits ∷ TableText ∷ RuleLength ∷ RuleText ∷ Proposition ∷ Nodes ∷ Parts ∷ Value ∷ IllegalEvent ∷ Room ∷ LogText ∷ NoPair ∷ []
 
 verdict-back : (v : Verdict) → getD verdicts (numberOf v) Inconclusive ≡ v
 verdict-back Inconclusive = refl
@@ -66,7 +66,7 @@ kind-back Proposition = refl
 kind-back Nodes = refl
 kind-back Parts = refl
 kind-back Value = refl
-kind-back Event = refl
+kind-back IllegalEvent = refl
 kind-back Room = refl
 kind-back LogText = refl
 kind-back NoPair = refl

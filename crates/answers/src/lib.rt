@@ -67,7 +67,7 @@ pub enum Kind {
     Nodes,
     Parts,
     Value,
-    Event,
+    IllegalEvent,
     Room,
     LogText,
     NoPair,
@@ -93,7 +93,7 @@ impl Kind {
 
     pub const VALUE: u8 = 9;
 
-    pub const EVENT: u8 = 10;
+    pub const ILLEGAL_EVENT: u8 = 10;
 
     pub const ROOM: u8 = 11;
 
@@ -116,7 +116,7 @@ impl Kind {
             Kind::Nodes => Kind::NODES,
             Kind::Parts => Kind::PARTS,
             Kind::Value => Kind::VALUE,
-            Kind::Event => Kind::EVENT,
+            Kind::IllegalEvent => Kind::ILLEGAL_EVENT,
             Kind::Room => Kind::ROOM,
             Kind::LogText => Kind::LOG_TEXT,
             Kind::NoPair => Kind::NO_PAIR,

@@ -13,7 +13,7 @@ use Rattle.syntax.specs.Value.{formulaOf, held, count}
 use Rattle.syntax.proofs.Values.{parts-held}
 use Rattle.truth.specs.Ready.{Ready}
 use Rattle.truth.specs.Tables.{tablesOf}
-use Rattle.truth.specs.Right.{RightTables}
+use Rattle.truth.specs.RightTables.{RightTables}
 use Rattle.truth_laws.specs.TablesRight.{tables-ready, tables-right}
 use Rattle.checks.specs.Checks.{inputOutcome}
 use Rattle.checks.specs.Input.{Input, input-accepted}

@@ -5,7 +5,7 @@ use mathlib.Core.Bool.{Bool, true, false}
 use mathlib.Core.List.{List, [], _∷_, _++_, map}
 use Rattle.pairs.specs.declared.Pairs.{Pairs}
 use Rattle.model.specs.Sets.{PairSet}
-use Rattle.answers.specs.declared.Kind.the-variants.{Event as EventKind}
+use Rattle.answers.specs.declared.Kind.the-variants.{IllegalEvent}
 use Rattle.answers.specs.declared.Lamp.{Lamp}
 use Rattle.answers.specs.declared.Answer.{Answer}
 use Rattle.answers.specs.declared.Answer.the-variants as Answers
@@ -24,7 +24,7 @@ use Rattle.advance.specs.declared.Monitor.{Monitor}
 use Rattle.advance.specs.Held.{modelOf, lampIn}
 use Rattle.advance.specs.Sides.{advancedIn}
 use Rattle.monitor.specs.declared.Watched.{Watched}
-use Rattle.monitor.specs.Calls.{stepOf}
+use Rattle.monitor.specs.Calls.{stepCall}
 use Rattle.watching.specs.Watching.{T, f, Held}
 use Rattle.course.specs.declared.Went.{Went}
 use Rattle.course.specs.Laid.{laid}
@@ -50,7 +50,7 @@ courseTo step m event (suc n) = goOn step (courseTo step m event n) (event n) (c
 
 -- THE COURSE OF A LOG: the public step, line after line, each as wide as the table's propositions ask for
 abbrev pub courseOf : Plant → List ℕ → List ℕ → List ℕ → Rule → Pairs → Monitor → List ℕ → Course
-courseOf p fair label next rule live m text = courseTo (stepOf p fair label next rule live) m (eventAt (widthOf (p .props)) text) (wholeLines (widthOf (p .props)) text)
+courseOf p fair label next rule live m text = courseTo (stepCall p fair label next rule live) m (eventAt (widthOf (p .props)) text) (wholeLines (widthOf (p .props)) text)
 
 -- the bytes of the verdicts' numbers, and of `left`
 abbrev pub verdictBytes : List Lamp → List ℕ
@@ -76,7 +76,7 @@ pub record Fitting (p : Plant) (fair label next : List ℕ) (rule : Rule) (live 
 -- a step with all that a rule says lent, and no check but that of the event
 abbrev pub turnOf : Bool → Monitor → Monitor → Watched
 turnOf true old new = record { answer = Answers.Shown (lampIn (modelOf new)); monitor = new }
-turnOf false old new = record { answer = Answers.Refused (refusedAt EventKind 0); monitor = old }
+turnOf false old new = record { answer = Answers.Refused (refusedAt IllegalEvent 0); monitor = old }
 
 abbrev pub turn : Plant → List ℕ → List ℕ → Ways → Pairs → Monitor → Event → Watched
 turn p label next w live m e = turnOf (legalOf e (p .props)) m (advancedIn label next w (live .words) m e)

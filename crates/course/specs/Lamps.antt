@@ -20,7 +20,7 @@ use Rattle.log.specs.declared.Event.{Event}
 use Rattle.advance.specs.declared.Monitor.{Monitor}
 use Rattle.advance.specs.Held.{modelOf, eventOf}
 use Rattle.monitor.specs.declared.Watched.{Watched}
-use Rattle.monitor.specs.Calls.{watched, table, formula, stepChecked, stepOf}
+use Rattle.monitor.specs.Calls.{watched, table, formula, stepChecked, stepCall}
 use Rattle.course.specs.Course.{Course, takes, goOn, courseTo, leftBytes}
 
 -- the `left` of an answer
@@ -41,10 +41,10 @@ pub record Counted (n : ℕ) (c : Course) : Type 0 where
 
 module _ (p : Plant) (fair label next : List ℕ) (rule : Rule) (live : Pairs) (m : Monitor) (event : ℕ → Event) where
   abbrev calls : Monitor → Event → Watched
-  calls = stepOf p fair label next rule live
+  calls = stepCall p fair label next rule live
 
   step-left : (x : Monitor) (e : Event) → leftIn (calls x e .answer) ≤ 64
-  unfolding stepOf
+  unfolding stepCall
   step-left x e = few-left (stepChecked p fair label next rule live x e) x (model.stepOf (table p fair label next rule) (formula p fair label next rule) (live .words) (modelOf x) (eventOf e))
 
   -- one event more

@@ -1,5 +1,5 @@
 pub mod Laid
 pub mod Course
-pub mod Right
+pub mod CourseRight
 pub mod Turns
 pub mod Lamps

@@ -7,7 +7,7 @@ use mathlib.Core.Bool.{Bool, true, false}
 use mathlib.Core.List.{List, [], _∷_, _++_, map, map-append}
 use lib.ListN.{length, set, length-append, length-map}
 use Rattle.pairs.specs.declared.Pairs.{Pairs}
-use Rattle.answers.specs.declared.Kind.the-variants.{Event as EventKind}
+use Rattle.answers.specs.declared.Kind.the-variants.{IllegalEvent}
 use Rattle.answers.specs.declared.Lamp.{Lamp}
 use Rattle.answers.specs.declared.Refusal.{Refusal}
 use Rattle.answers.specs.declared.Outcome.the-variants.{Accepted, Refused}
@@ -25,7 +25,7 @@ use Rattle.monitor.specs.declared.Watched.{Watched}
 use Rattle.course.specs.declared.Went.{Went}
 use Rattle.course.specs.Laid.{laid, laid-more, laid-length}
 use Rattle.course.specs.Course.{Course, takes, goOn, courseTo, turnOf, turn, verdictBytes, leftBytes, Followed}
-use Rattle.course.specs.Right.{stays}
+use Rattle.course.specs.CourseRight.{stays}
 
 -- the course as it stands where no event was refused
 abbrev standing : Monitor → List Lamp → Course
@@ -77,7 +77,7 @@ module _ (p : Plant) (label next : List ℕ) (w : Ways) (live : Pairs) (m : Moni
         grows = omega (arith, length-append (g .lamps) (shown ∷ []))
 
     -- a refused event ends the course where it stands
-    pub stops : (last : ℕ) {r : Refusal} → legalOf e (p .props) ≡ false → n < last → r ≡ refusedAt EventKind 0
+    pub stops : (last : ℕ) {r : Refusal} → legalOf e (p .props) ≡ false → n < last → r ≡ refusedAt IllegalEvent 0
         → Followed (at last) verdicts₀ lefts₀ verdicts lefts (record { outcome = Refused r; done = n; monitor = now })
     stops last legal before refused =
         let stopped = on false legal in

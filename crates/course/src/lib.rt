@@ -55,7 +55,7 @@ fn turns(
         let event = log::event_at(text, n, plant.props);
         if !log::is_legal(event, plant.props) {
             return Went {
-                outcome: Outcome::Refused(Refusal::at(Kind::Event, 0)),
+                outcome: Outcome::Refused(Refusal::at(Kind::IllegalEvent, 0)),
                 done: n,
                 monitor: now,
             };

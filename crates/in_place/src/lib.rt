@@ -6,7 +6,7 @@ use pairs::Pairs;
 use plant::Plant;
 use syntax::Rule;
 ghost use mathlib.Core.Path.{_≡_};
-ghost use Rattle.monitor.specs.Calls.{stepOf};
+ghost use Rattle.monitor.specs.Calls.{stepCall};
 
 // The step by value does the work: its monitor is stored where the lent one was. So the answers are the same, and after a refusal the monitor is as it was.
 pub fn step_in_place(
@@ -19,7 +19,7 @@ pub fn step_in_place(
     monitor: &mut Monitor,
     event: Event,
 ) -> Answer
-    ensures { λ r. ⌜ (r ≡ stepOf plant (now (fair .entry)) (now (label .entry)) (now (next .entry)) rule live (now (monitor .entry)) event .answer) × (now (monitor .exit) ≡ stepOf plant (now (fair .entry)) (now (label .entry)) (now (next .entry)) rule live (now (monitor .entry)) event .monitor) ⌝ }
+    ensures { λ r. ⌜ (r ≡ stepCall plant (now (fair .entry)) (now (label .entry)) (now (next .entry)) rule live (now (monitor .entry)) event .answer) × (now (monitor .exit) ≡ stepCall plant (now (fair .entry)) (now (label .entry)) (now (next .entry)) rule live (now (monitor .entry)) event .monitor) ⌝ }
 {
     let watched = monitor::step(plant, fair, label, next, rule, live, *monitor, event);
     *monitor = watched.monitor;

@@ -1,3 +1,3 @@
 pub mod Halves
 pub mod Laws
-pub mod Right
+pub mod HalvesRight

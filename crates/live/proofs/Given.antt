@@ -22,7 +22,7 @@ use Rattle.checks.specs.Input.{Input}
 use Rattle.checks.proofs.Given.{accepted, right, ready}
 use Rattle.live.specs.declared.Prepared.{Prepared}
 use Rattle.live.specs.Prepare.{preparedAs, preparedOf, liveOf}
-use Rattle.live.specs.Right.{live-by}
+use Rattle.live.specs.LiveRight.{live-by}
 
 -- an answer of its outcome and its words
 abbrev answer : Outcome → List ℕ → Prepared

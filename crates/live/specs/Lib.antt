@@ -1,3 +1,3 @@
 pub mod Prepare
-pub mod Right
+pub mod LiveRight
 pub mod Promises

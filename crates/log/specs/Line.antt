@@ -14,7 +14,7 @@ use Rattle.text.specs.Number.{hexSlots, countSlots, lastOf}
 use Rattle.text.specs.Form.{Form, Reads, led, both, seen, reads-led, reads-both, reads-seen}
 use Rattle.text.specs.Hex.{hex, hex-reads, hex-length}
 use Rattle.text.specs.Count.{counted, count-reads}
-use Rattle.text.specs.After.{after, cursor}
+use Rattle.text.specs.After.{cursorAfter, cursor}
 use Rattle.text.specs.Read.{IsHex, IsCount}
 use Rattle.text.specs.Took.{Took, took-led, took-both, took-seen, took-all, hex-took, count-took}
 use Rattle.text.specs.Lines.{Fixed}
@@ -110,8 +110,8 @@ line-fixed w = record { reads = line-reads w; bytes = bytes; some = omega arith 
         )
 
 pub lined :
-    (w : ℕ) (s : List ℕ) (c₁ c₂ c₃ c₄ c₅ c₆ : Cursor) (see val new : ℕ) → (c₁ ≡ after s (cursor 0 0) (word seeKey)) × (c₁ .at ≡ 4) → IsHex s c₁ w see c₂
-    → (c₃ ≡ after s c₂ (word valKey)) × (c₃ .at ≡ c₂ .at + 5) → IsHex s c₃ w val c₄ → (c₅ ≡ after s c₄ (word newKey)) × (c₅ .at ≡ c₄ .at + 5)
+    (w : ℕ) (s : List ℕ) (c₁ c₂ c₃ c₄ c₅ c₆ : Cursor) (see val new : ℕ) → (c₁ ≡ cursorAfter s (cursor 0 0) (word seeKey)) × (c₁ .at ≡ 4) → IsHex s c₁ w see c₂
+    → (c₃ ≡ cursorAfter s c₂ (word valKey)) × (c₃ .at ≡ c₂ .at + 5) → IsHex s c₃ w val c₄ → (c₅ ≡ cursorAfter s c₄ (word newKey)) × (c₅ .at ≡ c₄ .at + 5)
     → IsCount s c₅ 10 0 1 new c₆ → IsLine (line w) s (eventIn (see, (val, new))) (c₆ .good)
 lined w s c₁ c₂ c₃ c₄ c₅ c₆ see val new a b d e f g =
     record { is = all .0; goes = ap (λ (c : Cursor). c .good) (all .1) ∙ ap (λ (x : Event). matched s (line w .slots x)) (all .0) }

@@ -14,7 +14,7 @@ use Rattle.meaning.specs.Event.{Seen, Event, History, none, more, again, now, g
 use Rattle.meaning.specs.Verdict.{Agreeing, Chosen, At, Possible, CanBe, Right}
 use Rattle.meaning.specs.Limits.{AcceptedTable, Small}
 use Rattle.meaning.specs.Sense.{since-grow, since-more}
-use Rattle.theory.specs.Join.{after}
+use Rattle.theory.specs.Join.{walkThen}
 use Rattle.theory.specs.Narrow.{Narrower, verdict-narrows, Finer, FinerHistory, Smaller, finer-fewer, more-fewer, grow-agrees, smaller-fewer}
 use Rattle.model.specs.LiveSet.{liveSet}
 use Rattle.model.specs.Monitor.{Monitor, side, runOf, verdict, left}
@@ -82,7 +82,7 @@ module _ (T : Plant) (f : Formula) (A : AcceptedTable T) (small : Small f) where
 
     -- a witness, joined with a walk that agrees with the events, is a run of the asked kind
     pub log-witness : (b : Bool) (L : Lasso) → Witness T f (side (watched T f es) b) L
-        → (walk : List ℕ) × (length walk ≡ now (since es)) × Chosen T f b (since es) (after walk L)
+        → (walk : List ℕ) × (length walk ≡ now (since es)) × Chosen T f b (since es) (walkThen walk L)
     log-witness = witness-joined T f A small (watched T f es) (since es) log-means
 
   -- without a restart the verdict only narrows

@@ -17,7 +17,7 @@ use Rattle.meaning.specs.Event.{History, now}
 use Rattle.meaning.specs.Pair.{PairAt, Live}
 use Rattle.meaning.specs.Verdict.{Chosen}
 use Rattle.meaning.specs.Limits.{AcceptedTable, Small, mostStem, mostLoop}
-use Rattle.theory.specs.Join.{after}
+use Rattle.theory.specs.Join.{walkThen}
 use Rattle.theory.specs.Node.{node, edge, goals}
 use Rattle.theory.specs.Sound.{ringStates, ring-fair, ring-pair}
 use Rattle.theory.specs.Alive.{valuations-few, live-short}
@@ -85,7 +85,7 @@ module _ (T : Plant) (f : Formula) (A : AcceptedTable T) (small : Small f) where
 
   -- after events, some walk that agrees with them leads to the witness, and the two, joined, are a run of the asked kind
   pub witness-joined : (m : Monitor) (h : History) → Means T f m h → (b : Bool) (L : Lasso) → Witness T f (side m b) L
-      → (walk : List ℕ) × (length walk ≡ now h) × Chosen T f b h (after walk L)
+      → (walk : List ℕ) × (length walk ≡ now h) × Chosen T f b h (walkThen walk L)
   witness-joined m h k b L w =
       witness-run T f b h (w .state) (w .values) (marked (m .seen) (k .begun)) (k .says b (w .state) (w .values) .0 (w .held))
       (record { lasso = L; walk = w .walk; pair = w .pair })

@@ -12,7 +12,7 @@ use Rattle.pairs.specs.Sets.{Words, joinOf}
 use Rattle.model.specs.Monitor as model
 use Rattle.model.specs.Sets.{PairSet}
 use Rattle.model.specs.Checks.{pairsOk, pairs-says, eventOk, legal-says}
-use Rattle.answers.specs.declared.Kind.the-variants.{Value, Event as EventKind}
+use Rattle.answers.specs.declared.Kind.the-variants.{Value, IllegalEvent}
 use Rattle.answers.specs.declared.Refusal.{Refusal}
 use Rattle.answers.specs.declared.Answer.{Answer}
 use Rattle.answers.specs.declared.Answer.the-variants as Answers
@@ -32,9 +32,9 @@ use Rattle.checks.proofs.Given.{accepted, right, parts-is}
 use Rattle.advance.specs.declared.Monitor.{Monitor}
 use Rattle.advance.specs.Held.{modelOf, monitorOf, eventOf}
 use Rattle.advance.specs.Sides.{openedBy, advancedIn}
-use Rattle.advance.specs.Right.{opened-right, advanced-right}
+use Rattle.advance.specs.SidesRight.{opened-right, advanced-right}
 use Rattle.monitor.specs.declared.Watched.{Watched}
-use Rattle.monitor.specs.Calls.{none, lampOf, watched, lit, table, formula, checkedOf, openOf, lookOf, stepChecked, stepOf}
+use Rattle.monitor.specs.Calls.{noMonitor, lampOf, watched, lit, table, formula, checkedOf, openCall, lookCall, stepChecked, stepCall}
 use Rattle.monitor.specs.Checked.{fitOf, heldOf, caughtOf}
 
 abbrev watchedWith : Answer → Monitor → Watched
@@ -107,27 +107,27 @@ module _ (p : Plant) (fair label next : List ℕ) (rule : Rule) where
       pub open-input : o ≡ Accepted → Input p fair label next rule
       open-input g = both-accepted (fine (live .words)) (sym opens-checked ∙ g) .0
 
-      pub not-opened : {r : Refusal} → o ≡ Refused r → record { answer = Answers.Refused r; monitor = none } ≡ openOf p fair label next rule live
-      unfolding openOf
-      not-opened g = ap (λ (x : Outcome). watched x none new) (sym g ∙ opens-checked)
+      pub not-opened : {r : Refusal} → o ≡ Refused r → record { answer = Answers.Refused r; monitor = noMonitor } ≡ openCall p fair label next rule live
+      unfolding openCall
+      not-opened g = ap (λ (x : Outcome). watched x noMonitor new) (sym g ∙ opens-checked)
 
-      pub is-opened : {m : Monitor} {a : Answer} → o ≡ Accepted → m ≡ openedBy (p .start) (waysOf label rule .holds) (live .words) → a ≡ lampOf (modelOf m) → watchedWith a m ≡ openOf p fair label next rule live
-      unfolding openOf
+      pub is-opened : {m : Monitor} {a : Answer} → o ≡ Accepted → m ≡ openedBy (p .start) (waysOf label rule .holds) (live .words) → a ≡ lampOf (modelOf m) → watchedWith a m ≡ openCall p fair label next rule live
+      unfolding openCall
       is-opened g em el =
           let (i, sets) = both-accepted (fine (live .words)) (sym opens-checked ∙ g) in
           let z = pairs-says _ _ (live .words) .0 sets in
-          lighted none new (em ∙ opened-right _ _ (i .table) (i .few) rule (right i) (live .words) z) el
-          ∙ ap (λ (x : Outcome). watched x none new) (sym g ∙ opens-checked)
+          lighted noMonitor new (em ∙ opened-right _ _ (i .table) (i .few) rule (right i) (live .words) z) el
+          ∙ ap (λ (x : Outcome). watched x noMonitor new) (sym g ∙ opens-checked)
 
     -- ---- look
 
     module _ (m : Monitor) (w : Words (m .keeps .words)) (x : Words (m .breaks .words)) {o : Outcome} (e : o ≡ heldOf p fair label next rule (m .keeps .words) (m .breaks .words)) where
-      pub not-lit : {r : Refusal} → o ≡ Refused r → Answers.Refused r ≡ lookOf p fair label next rule m
-      unfolding lookOf
+      pub not-lit : {r : Refusal} → o ≡ Refused r → Answers.Refused r ≡ lookCall p fair label next rule m
+      unfolding lookCall
       not-lit g = ap (λ (y : Outcome). lit y (modelOf m)) (sym g ∙ e ∙ held-is w x)
 
-      pub is-lit : {a : Answer} → o ≡ Accepted → a ≡ lampOf (modelOf m) → a ≡ lookOf p fair label next rule m
-      unfolding lookOf
+      pub is-lit : {a : Answer} → o ≡ Accepted → a ≡ lampOf (modelOf m) → a ≡ lookCall p fair label next rule m
+      unfolding lookCall
       is-lit g el = el ∙ ap (λ (y : Outcome). lit y (modelOf m)) (sym g ∙ e ∙ held-is w x)
 
     -- ---- step
@@ -144,7 +144,7 @@ module _ (p : Plant) (fair label next : List ℕ) (rule : Rule) where
       unfolding caughtOf heldOf
       step-checked =
           e ∙ in-turn (inputOutcome p fair label next rule) _ _
-          ∙ behind _ _ (λ i. ap₂ (λ (b c : Bool). andThen (unless b Value) (unless c EventKind)) (both-sides i) (legal-is i event))
+          ∙ behind _ _ (λ i. ap₂ (λ (b c : Bool). andThen (unless b Value) (unless c IllegalEvent)) (both-sides i) (legal-is i event))
           ∙ sym (in-turn (inputOutcome p fair label next rule) _ _)
         where
           both-sides : Input p fair label next rule → (fitOf p fair label next rule (live .words) && fitOf p fair label next rule (joinOf (m .keeps .words) (m .breaks .words))) ≡ sets
@@ -158,12 +158,12 @@ module _ (p : Plant) (fair label next : List ℕ) (rule : Rule) where
       pub step-input : o ≡ Accepted → Input p fair label next rule
       step-input g = step-accepted g .0
 
-      pub not-stepped : {r : Refusal} → o ≡ Refused r → record { answer = Answers.Refused r; monitor = m } ≡ stepOf p fair label next rule live m event
-      unfolding stepOf
+      pub not-stepped : {r : Refusal} → o ≡ Refused r → record { answer = Answers.Refused r; monitor = m } ≡ stepCall p fair label next rule live m event
+      unfolding stepCall
       not-stepped g = ap (λ (z : Outcome). watched z m after) (sym g ∙ step-checked)
 
-      pub is-stepped : {n : Monitor} {a : Answer} → o ≡ Accepted → n ≡ advancedIn label next (waysOf label rule) (live .words) m event → a ≡ lampOf (modelOf n) → watchedWith a n ≡ stepOf p fair label next rule live m event
-      unfolding stepOf
+      pub is-stepped : {n : Monitor} {a : Answer} → o ≡ Accepted → n ≡ advancedIn label next (waysOf label rule) (live .words) m event → a ≡ lampOf (modelOf n) → watchedWith a n ≡ stepCall p fair label next rule live m event
+      unfolding stepCall
       is-stepped g en el =
           let (i, all) = step-accepted g in
           let (first, rest) = and-says (fine (live .words)) _ .0 all in

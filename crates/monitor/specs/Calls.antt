@@ -9,7 +9,7 @@ use Rattle.pairs.specs.declared.Pairs.{Pairs}
 use Rattle.pairs.specs.Sets.{emptyOf}
 use Rattle.model.specs.Monitor as model
 use Rattle.model.specs.Checks.{pairsOk, eventOk}
-use Rattle.answers.specs.declared.Kind.the-variants.{Value, Event as EventKind}
+use Rattle.answers.specs.declared.Kind.the-variants.{Value, IllegalEvent}
 use Rattle.answers.specs.declared.Answer.{Answer}
 use Rattle.answers.specs.declared.Answer.the-variants as Answers
 use Rattle.answers.specs.declared.Outcome.{Outcome}
@@ -28,8 +28,8 @@ use Rattle.advance.specs.Held.{modelOf, monitorOf, eventOf}
 use Rattle.monitor.specs.declared.Watched.{Watched}
 
 -- the monitor beside a refusal to open one
-abbrev pub none : Monitor
-none = record { seen = false; keeps = record { words = replicate 64 0 }; breaks = record { words = replicate 64 0 } }
+abbrev pub noMonitor : Monitor
+noMonitor = record { seen = false; keeps = record { words = replicate 64 0 }; breaks = record { words = replicate 64 0 } }
 
 -- ---- the lamp
 
@@ -62,15 +62,15 @@ module _ (p : Plant) (fair label next : List ℕ) (rule : Rule) where
   abbrev fits : Pairs → Bool
   fits s = pairsOk table formula (s .words)
 
-  unfoldable pub openOf : Pairs → Watched
-  openOf live = watched (checkedOf (fits live)) none (model.opening table formula (live .words))
+  unfoldable pub openCall : Pairs → Watched
+  openCall live = watched (checkedOf (fits live)) noMonitor (model.opening table formula (live .words))
 
-  unfoldable pub lookOf : Monitor → Answer
-  lookOf m = lit (checkedOf (fits (m .keeps) && fits (m .breaks))) (modelOf m)
+  unfoldable pub lookCall : Monitor → Answer
+  lookCall m = lit (checkedOf (fits (m .keeps) && fits (m .breaks))) (modelOf m)
 
   -- 10 comes last
   abbrev pub stepChecked : Pairs → Monitor → Event → Outcome
-  stepChecked live m e = andThen (checkedOf (fits live && (fits (m .keeps) && fits (m .breaks)))) (unless (eventOk table (seenOf e)) EventKind)
+  stepChecked live m e = andThen (checkedOf (fits live && (fits (m .keeps) && fits (m .breaks)))) (unless (eventOk table (seenOf e)) IllegalEvent)
 
-  unfoldable pub stepOf : Pairs → Monitor → Event → Watched
-  stepOf live m e = watched (stepChecked live m e) m (model.stepOf table formula (live .words) (modelOf m) (eventOf e))
+  unfoldable pub stepCall : Pairs → Monitor → Event → Watched
+  stepCall live m e = watched (stepChecked live m e) m (model.stepOf table formula (live .words) (modelOf m) (eventOf e))

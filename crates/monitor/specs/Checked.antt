@@ -5,7 +5,7 @@ use mathlib.Core.List.{List}
 use Rattle.meaning.specs.Formula.{parts}
 use Rattle.pairs.specs.declared.Pairs.{Pairs}
 use Rattle.pairs.specs.Sets.{joinOf}
-use Rattle.answers.specs.declared.Kind.the-variants.{Event as EventKind}
+use Rattle.answers.specs.declared.Kind.the-variants.{IllegalEvent}
 use Rattle.answers.specs.declared.Outcome.{Outcome}
 use Rattle.answers.specs.Chain.{andThen, unless}
 use Rattle.plant.specs.declared.Plant.{Plant}
@@ -28,4 +28,4 @@ module _ (p : Plant) (fair label next : List ℕ) (rule : Rule) where
 
   -- and 10; the two sides in one pass
   unfoldable pub caughtOf : Pairs → Monitor → Event → Outcome
-  caughtOf live m e = andThen (heldOf (live .words) (joinOf (m .keeps .words) (m .breaks .words))) (unless (legalOf e (p .props)) EventKind)
+  caughtOf live m e = andThen (heldOf (live .words) (joinOf (m .keeps .words) (m .breaks .words))) (unless (legalOf e (p .props)) IllegalEvent)

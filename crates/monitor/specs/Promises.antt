@@ -1,4 +1,4 @@
--- What the calls on a monitor promise. Their contracts are equations: open answers `openOf`, look `lookOf`, step `stepOf` (specs/Calls). Here is said
+-- What the calls on a monitor promise. Their contracts are equations: open answers `openCall`, look `lookCall`, step `stepCall` (specs/Calls). Here is said
 -- when a call is accepted, and what a refusal leaves. What each number is given for, and what the lamp says of the runs, is said in the crate promises.
 use Prim.Native.Nat.{ℕ}
 use mathlib.Core.Path.{_≡_, ap}
@@ -16,7 +16,7 @@ use Rattle.pairs.specs.Sets.{emptyOf}
 use Rattle.model.specs.Monitor as model
 use Rattle.model.specs.Sets.{PairSet}
 use Rattle.model.specs.Checks.{pairsOk, pairs-says, eventOk, legal-says}
-use Rattle.answers.specs.declared.Kind.the-variants.{Value, Event as EventKind}
+use Rattle.answers.specs.declared.Kind.the-variants.{Value, IllegalEvent}
 use Rattle.answers.specs.declared.Refusal.{Refusal}
 use Rattle.answers.specs.declared.Answer.the-variants as Answers
 use Rattle.answers.specs.declared.Outcome.{Outcome}
@@ -32,15 +32,15 @@ use Rattle.checks.specs.Checks.{inputOutcome}
 use Rattle.checks.specs.Input.{Input, input-accepted}
 use Rattle.advance.specs.declared.Monitor.{Monitor}
 use Rattle.advance.specs.Held.{modelOf, eventOf}
-use Rattle.monitor.specs.Calls.{none, lampOf, watched, table, formula, checkedOf, openOf, stepChecked, stepOf}
+use Rattle.monitor.specs.Calls.{noMonitor, lampOf, watched, table, formula, checkedOf, openCall, stepChecked, stepCall}
 
 -- the lamp on paper: the verdict's number and `left`
 pub lamp-paper : (m : model.Monitor) → paper (lampOf m) ≡ verdict (model.verdict m) (model.left m)
 unfolding model.verdict
 lamp-paper m = ap (λ (n : ℕ). verdict n (model.left m)) (verdict-number (not (emptyOf (m .keeps))) (not (emptyOf (m .breaks))))
 
-both : {A B C D : Type 0} → A ↔ B → C ↔ D → (A × C) ↔ (B × D)
-both h k = (λ x. (h .0 (x .0), k .0 (x .1)), λ y. (h .1 (y .0), k .1 (y .1)))
+both-iff : {A B C D : Type 0} → A ↔ B → C ↔ D → (A × C) ↔ (B × D)
+both-iff h k = (λ x. (h .0 (x .0), k .0 (x .1)), λ y. (h .1 (y .0), k .1 (y .1)))
 
 module _ (p : Plant) (fair label next : List ℕ) (rule : Rule) where
   abbrev T : run.Plant
@@ -52,13 +52,13 @@ module _ (p : Plant) (fair label next : List ℕ) (rule : Rule) where
   -- A REFUSAL gives its number and place, and the monitor stays
 
   pub open-refused : (live : Pairs) (r : Refusal) → checkedOf p fair label next rule (pairsOk T f (live .words)) ≡ Refused r
-      → openOf p fair label next rule live ≡ record { answer = Answers.Refused r; monitor = none }
-  unfolding openOf
-  open-refused live r e = ap (λ (o : Outcome). watched o none (model.opening T f (live .words))) e
+      → openCall p fair label next rule live ≡ record { answer = Answers.Refused r; monitor = noMonitor }
+  unfolding openCall
+  open-refused live r e = ap (λ (o : Outcome). watched o noMonitor (model.opening T f (live .words))) e
 
   pub step-refused : (live : Pairs) (m : Monitor) (e : Event) (r : Refusal) → stepChecked p fair label next rule live m e ≡ Refused r
-      → stepOf p fair label next rule live m e ≡ record { answer = Answers.Refused r; monitor = m }
-  unfolding stepOf
+      → stepCall p fair label next rule live m e ≡ record { answer = Answers.Refused r; monitor = m }
+  unfolding stepCall
   step-refused live m e r g = ap (λ (o : Outcome). watched o m (model.stepOf T f (live .words) (modelOf m) (eventOf e))) g
 
   module _ (full : length (rule .nodes) ≡ 32) where
@@ -66,7 +66,7 @@ module _ (p : Plant) (fair label next : List ℕ) (rule : Rule) where
 
     checked-exactly : {sets : Bool} {A : Type 0} → Says sets A → (checkedOf p fair label next rule sets ≡ Accepted) ↔ (Input p fair label next rule × A)
     checked-exactly {sets} s =
-        Iff·trans (chain-accepts (inputOutcome p fair label next rule) (unless sets Value)) (both (input-accepted p fair label next rule full) (Iff·trans (unless-accepts sets Value) s))
+        Iff·trans (chain-accepts (inputOutcome p fair label next rule) (unless sets Value)) (both-iff (input-accepted p fair label next rule full) (Iff·trans (unless-accepts sets Value) s))
 
     pub open-accepted : (live : Pairs) → (checkedOf p fair label next rule (pairsOk T f (live .words)) ≡ Accepted) ↔ (Input p fair label next rule × PairSet T f (live .words))
     open-accepted live = checked-exactly (pairs-says T f (live .words))
@@ -78,6 +78,6 @@ module _ (p : Plant) (fair label next : List ℕ) (rule : Rule) where
     pub step-accepted : (live : Pairs) (m : Monitor) (e : Event) → (stepChecked p fair label next rule live m e ≡ Accepted)
         ↔ ((Input p fair label next rule × (PairSet T f (live .words) × (PairSet T f (m .keeps .words) × PairSet T f (m .breaks .words)))) × Legal T (seenOf e))
     step-accepted live m e =
-        Iff·trans (chain-accepts _ (unless (eventOk T (seenOf e)) EventKind))
-        (both (checked-exactly (says-and (pairs-says T f (live .words)) (says-and (pairs-says T f (m .keeps .words)) (pairs-says T f (m .breaks .words)))))
-        (Iff·trans (unless-accepts (eventOk T (seenOf e)) EventKind) (legal-says T (seenOf e))))
+        Iff·trans (chain-accepts _ (unless (eventOk T (seenOf e)) IllegalEvent))
+        (both-iff (checked-exactly (says-and (pairs-says T f (live .words)) (says-and (pairs-says T f (m .keeps .words)) (pairs-says T f (m .breaks .words)))))
+        (Iff·trans (unless-accepts (eventOk T (seenOf e)) IllegalEvent) (legal-says T (seenOf e))))

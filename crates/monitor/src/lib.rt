@@ -12,7 +12,7 @@ use plant::Plant;
 use syntax::Rule;
 ghost use mathlib.Core.Path.{_≡_};
 ghost use Rattle.advance.specs.Held.{modelOf};
-ghost use Rattle.monitor.specs.Calls.{lampOf, openOf, lookOf, stepOf};
+ghost use Rattle.monitor.specs.Calls.{lampOf, openCall, lookCall, stepCall};
 ghost use Rattle.monitor.specs.Checked.{heldOf, caughtOf};
 
 // The answer, and beside it the monitor. With a refusal it is the monitor handed in; `open` has none, and gives the empty one.
@@ -65,7 +65,7 @@ pub fn open(
     rule: Rule,
     live: Pairs,
 ) -> Watched
-    ensures { λ r. ⌜ r ≡ openOf plant (now (fair .entry)) (now (label .entry)) (now (next .entry)) rule live ⌝ }
+    ensures { λ r. ⌜ r ≡ openCall plant (now (fair .entry)) (now (label .entry)) (now (next .entry)) rule live ⌝ }
 {
     let outcome = check_held(plant, fair, label, next, rule, &live.words, &live.words);
     match outcome {
@@ -92,7 +92,7 @@ pub fn look(
     rule: Rule,
     monitor: Monitor,
 ) -> Answer
-    ensures { λ r. ⌜ r ≡ lookOf plant (now (fair .entry)) (now (label .entry)) (now (next .entry)) rule monitor ⌝ }
+    ensures { λ r. ⌜ r ≡ lookCall plant (now (fair .entry)) (now (label .entry)) (now (next .entry)) rule monitor ⌝ }
 {
     let keeps = monitor.keeps;
     let breaks = monitor.breaks;
@@ -126,7 +126,7 @@ fn check_step(
             if log::is_legal(event, plant.props) {
                 return Outcome::Accepted;
             }
-            Outcome::Refused(Refusal::at(Kind::Event, 0))
+            Outcome::Refused(Refusal::at(Kind::IllegalEvent, 0))
         }
     }
 }
@@ -142,7 +142,7 @@ pub fn step(
     monitor: Monitor,
     event: Event,
 ) -> Watched
-    ensures { λ r. ⌜ r ≡ stepOf plant (now (fair .entry)) (now (label .entry)) (now (next .entry)) rule live monitor event ⌝ }
+    ensures { λ r. ⌜ r ≡ stepCall plant (now (fair .entry)) (now (label .entry)) (now (next .entry)) rule live monitor event ⌝ }
 {
     let outcome = check_step(plant, fair, label, next, rule, live, monitor, event);
     match outcome {

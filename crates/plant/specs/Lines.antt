@@ -9,7 +9,7 @@ use Rattle.text.specs.Number.{countSlots}
 use Rattle.text.specs.Cases.{if-below}
 use Rattle.text.specs.Form.{led, ended}
 use Rattle.text.specs.Hex.{hex}
-use Rattle.text.specs.After.{after, goes-on}
+use Rattle.text.specs.After.{cursorAfter, goes-on}
 use Rattle.text.specs.Read.{IsHex, IsCount, digits-room}
 use Rattle.text.specs.Took.{Took, took-led, took-ended, took-both, hex-took, count-took}
 use Rattle.words.specs.Below.{filled, listBelow}
@@ -62,13 +62,13 @@ pub record IsRows (s : List ℕ) (c : Cursor) (w n : ℕ) (label next : List ℕ
   pub nexts : next ≡ padded 64 (rows w n .guess (drop (c .at) s) .1)
 
 pub count-line :
-    {s : List ℕ} {c d e : Cursor} {key : List ℕ} {lo hi v : ℕ} → (d ≡ after s c (word key)) × (d .at ≡ c .at + length key) → length key ≤ 8
+    {s : List ℕ} {c d e : Cursor} {key : List ℕ} {lo hi v : ℕ} → (d ≡ cursorAfter s c (word key)) × (d .at ≡ c .at + length key) → length key ≤ 8
     → IsCount s d 10 lo hi v e → IsCountLine s c key lo hi v e
 count-line {key} p l h =
     record { took = took-led (word key) (p .0) (count-took h); low = h .low; high = h .high; at = omega (arith, h .at) }
 
 pub hex-line :
-    {s : List ℕ} {c d e : Cursor} {w v : ℕ} → IsHex s c w v d → (e ≡ after s d lf) × (e .at ≡ d .at + 1) → w ≤ 16
+    {s : List ℕ} {c d e : Cursor} {w v : ℕ} → IsHex s c w v d → (e ≡ cursorAfter s d lf) × (e .at ≡ d .at + 1) → w ≤ 16
     → IsHexLine s c [] w v e × (e .at ≤ c .at + 17)
 unfolding led
 hex-line {w} {v} h p l =
@@ -77,8 +77,8 @@ hex-line {w} {v} h p l =
 
 -- a line behind its key
 pub field-line :
-    {s : List ℕ} {c d e f : Cursor} (name : List ℕ) (k : ℕ) {w v : ℕ} → (d ≡ after s c (word name)) × (d .at ≡ c .at + length name)
-    → (e ≡ after s d (countSlots 61 k)) × (e .at ≤ d .at + 3) → IsHexLine s e [] w v f × (f .at ≤ e .at + 17) → length name ≤ 8
+    {s : List ℕ} {c d e f : Cursor} (name : List ℕ) (k : ℕ) {w v : ℕ} → (d ≡ cursorAfter s c (word name)) × (d .at ≡ c .at + length name)
+    → (e ≡ cursorAfter s d (countSlots 61 k)) × (e .at ≤ d .at + 3) → IsHexLine s e [] w v f × (f .at ≤ e .at + 17) → length name ≤ 8
     → IsHexLine s c (keySlots name k) w v f × (f .at ≤ c .at + 28)
 unfolding led
 field-line {s} {c} {d} {e} {f} name k {w} {v} p q h l =
@@ -86,7 +86,7 @@ field-line {s} {c} {d} {e} {f} name k {w} {v} p q h l =
     (record { took = took-led (keySlots name k) (goes-on s c d e (word name) (countSlots 61 k) (p .0) (q .0)) t; small = h .0 .small }, omega arith)
 
 pub keyed-line :
-    {s : List ℕ} {c d e : Cursor} (key : List ℕ) {w v : ℕ} → d ≡ after s c (word key) → IsHexLine s d [] w v e → Took (hexLine (word key) w) s c v e
+    {s : List ℕ} {c d e : Cursor} (key : List ℕ) {w v : ℕ} → d ≡ cursorAfter s c (word key) → IsHexLine s d [] w v e → Took (hexLine (word key) w) s c v e
 unfolding led
 keyed-line {s} {d} {e} key {w} {v} p h =
     let t : Took (ended (hex w) lf) s d v e = record { is = h .took .is; goes = h .took .goes } in
@@ -95,13 +95,13 @@ keyed-line {s} {d} {e} key {w} {v} p h =
 -- ---- the loops
 
 pub fair-turn :
-    (s : List ℕ) (c d e : Cursor) (k v : ℕ) → d ≡ after s c (slotsBelow (field fairName 16) k (fairAt (drop (c .at) s)))
+    (s : List ℕ) (c d e : Cursor) (k v : ℕ) → d ≡ cursorAfter s c (slotsBelow (field fairName 16) k (fairAt (drop (c .at) s)))
     → IsHexLine s d (keySlots fairName k) 16 v e × (e .at ≤ d .at + 28)
-    → (v ≡ fairAt (drop (c .at) s) k) × (e ≡ after s c (slotsBelow (field fairName 16) (k + 1) (fairAt (drop (c .at) s))))
+    → (v ≡ fairAt (drop (c .at) s) k) × (e ≡ cursorAfter s c (slotsBelow (field fairName 16) (k + 1) (fairAt (drop (c .at) s))))
 fair-turn s c d e k v p h = below-turn (field fairName 16) (fieldLength fairName 16) (field-fixed fairName 16) (field-reads fairName 16) s c d e k v p (h .0 .took)
 
 pub fair-done :
-    (s : List ℕ) (c e : Cursor) (n : ℕ) (words : List ℕ) → e ≡ after s c (slotsBelow (field fairName 16) n (fairAt (drop (c .at) s)))
+    (s : List ℕ) (c e : Cursor) (n : ℕ) (words : List ℕ) → e ≡ cursorAfter s c (slotsBelow (field fairName 16) n (fairAt (drop (c .at) s)))
     → words ≡ filled 4 n (fairAt (drop (c .at) s)) → e .at ≤ c .at + 112 → IsFair s c n words e
 unfolding listed
 fair-done s c e n words p w l =
@@ -113,14 +113,14 @@ fair-done s c e n words p w l =
     }
 
 pub row-turn :
-    (w : ℕ) (s : List ℕ) (c d e f : Cursor) (k v x : ℕ) → d ≡ after s c (slotsBelow (row w) k (rowAt w (drop (c .at) s)))
+    (w : ℕ) (s : List ℕ) (c d e f : Cursor) (k v x : ℕ) → d ≡ cursorAfter s c (slotsBelow (row w) k (rowAt w (drop (c .at) s)))
     → IsHexLine s d (keySlots labelName k) w v e × (e .at ≤ d .at + 28) → IsHexLine s e (keySlots nextName k) 16 x f × (f .at ≤ e .at + 28)
-    → ((v, x) ≡ rowAt w (drop (c .at) s) k) × (f ≡ after s c (slotsBelow (row w) (k + 1) (rowAt w (drop (c .at) s))))
+    → ((v, x) ≡ rowAt w (drop (c .at) s) k) × (f ≡ cursorAfter s c (slotsBelow (row w) (k + 1) (rowAt w (drop (c .at) s))))
 row-turn w s c d e f k v x p g h =
     below-turn (row w) (rowLength w) (row-fixed w) (row-reads w) s c d f k (v, x) p (took-both (λ l. field nextName 16 k) (g .0 .took) (h .0 .took))
 
 pub rows-done :
-    (w : ℕ) (s : List ℕ) (c e : Cursor) (n : ℕ) (label next : List ℕ) → e ≡ after s c (slotsBelow (row w) n (rowAt w (drop (c .at) s)))
+    (w : ℕ) (s : List ℕ) (c e : Cursor) (n : ℕ) (label next : List ℕ) → e ≡ cursorAfter s c (slotsBelow (row w) n (rowAt w (drop (c .at) s)))
     → label ≡ filled 64 n (λ k. rowAt w (drop (c .at) s) k .0) → next ≡ filled 64 n (λ k. rowAt w (drop (c .at) s) k .1) → IsRows s c w n label next e
 unfolding listed
 rows-done w s c e n label next p l m =

@@ -16,7 +16,7 @@ use Rattle.answers.specs.Paper.{refusedAt}
 use Rattle.text.specs.Slot.{word, matched}
 use Rattle.words.specs.Lists.{length-list, list-at}
 use Rattle.text.specs.Number.{widthOf}
-use Rattle.text.specs.After.{after, cursor}
+use Rattle.text.specs.After.{cursorAfter, cursor}
 use Rattle.text.specs.Form.{led, ended, both, seen}
 use Rattle.text.specs.Hex.{hex}
 use Rattle.text.specs.Count.{counted}
@@ -78,7 +78,7 @@ pub record IsParsed (s : List ℕ) (t : Table) (end : Cursor) : Type 0 where
 
 pub parsed :
     (s : List ℕ) (c₁ c₂ c₃ c₄ c₅ c₆ c₇ : Cursor) (props states start just : ℕ) (fair label next : List ℕ) (w : ℕ) → w ≡ widthOf props → IsCountLine s (cursor 0 0) propsKey 1 mostProps props c₁
-    → IsCountLine s c₁ statesKey 1 64 states c₂ → (c₃ ≡ after s c₂ (word startKey)) × (c₃ .at ≡ c₂ .at + 6) → IsHexLine s c₃ [] 16 start c₄ × (c₄ .at ≤ c₃ .at + 17)
+    → IsCountLine s c₁ statesKey 1 64 states c₂ → (c₃ ≡ cursorAfter s c₂ (word startKey)) × (c₃ .at ≡ c₂ .at + 6) → IsHexLine s c₃ [] 16 start c₄ × (c₄ .at ≤ c₃ .at + 17)
     → IsCountLine s c₄ justKey 0 4 just c₅ → IsFair s c₅ just fair c₆ → IsRows s c₆ w states label next c₇
     → IsParsed s (record { plant = record { props = props; states = states; start = start; just = just }; fair = fair; label = label; next = next }) c₇
 unfolding seen listed

@@ -11,7 +11,7 @@ use borrow.Author.Tests.{lt-leb, le-leb}
 use Rattle.syntax.specs.Grammar.{names, spell}
 use Rattle.syntax.specs.Postfix.{postfix, sides}
 use Rattle.syntax.specs.Print.{inside, print, Below}
-use Rattle.syntax.proofs.Complete.{Ev, later, both, map}
+use Rattle.syntax.proofs.Complete.{Ev, later, ev-both, map}
 use Rattle.syntax.proofs.Printed.{length-inside}
 use Rattle.syntax.proofs.Lexing.{by-digits, spelt-one, spelt-two}
 use lib.ListN.{length, drop, take, getD}
@@ -49,7 +49,7 @@ two : (o : Op) → (sides o ≡ 0 → ⊥) → (sides o ≡ 1 → ⊥) → (a b 
     → Ev (λ n. tell n (onto (postfix a ++ (postfix b ++ o ∷ [])) r) ≡ record { text = inside (print a) (word o) (print b); rest = r })
 unfolding onto
 two o e f a b r p q =
-    later (both p q (λ n x y. ap (tell (suc n)) (onto-append (postfix a) (postfix b ++ o ∷ []) r ∙ onto-append (postfix b) (o ∷ []) (onto (postfix a) r))
+    later (ev-both p q (λ n x y. ap (tell (suc n)) (onto-append (postfix a) (postfix b ++ o ∷ []) r ∙ onto-append (postfix b) (o ∷ []) (onto (postfix a) r))
     ∙ tell-two o (onto (postfix b) (onto (postfix a) r)) n e f
     ∙ ap (λ l. record { text = inside (tell n (l .rest) .text) (word o) (l .text); rest = tell n (l .rest) .rest }) y
     ∙ ap (λ l. record { text = inside (l .text) (word o) (print b); rest = l .rest }) x))

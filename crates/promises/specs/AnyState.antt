@@ -38,7 +38,7 @@ use Rattle.log.specs.declared.Event.{Event}
 use Rattle.advance.specs.declared.Monitor.{Monitor}
 use Rattle.advance.specs.Held.{modelOf, eventOf}
 use Rattle.monitor.specs.declared.Watched.{Watched}
-use Rattle.monitor.specs.Calls.{none, lampOf, watched, lit, openOf, lookOf, stepChecked, stepOf}
+use Rattle.monitor.specs.Calls.{noMonitor, lampOf, watched, lit, openCall, lookCall, stepChecked, stepCall}
 use Rattle.monitor.specs.Promises.{lamp-paper, open-accepted, look-accepted, step-accepted}
 use Rattle.watching.specs.Watching as watching
 use Rattle.promises.specs.Demand.{sideOf}
@@ -134,11 +134,11 @@ module _ (p : Plant) (fair label next : List ℕ) (rule : Rule) (full : length (
   f = watching.f p fair label next rule
 
   -- THE OPENING, for any live set
-  pub open-any : (live : Pairs) → Accepts (openOf p fair label next rule live .answer) → Opened T f live (openOf p fair label next rule live)
-  unfolding openOf model.opening
+  pub open-any : (live : Pairs) → Accepts (openCall p fair label next rule live .answer) → Opened T f live (openCall p fair label next rule live)
+  unfolding openCall model.opening
   open-any live a =
       let new = model.opening T f (live .words) in
-      let ok = passed _ none new a in
+      let ok = passed _ noMonitor new a in
       let (given, fits) = open-accepted p fair label next rule full live .0 ok in
       let sets = opening-sets T f (given .table) (given .few) (live .words) fits in
       rw ok (record {
@@ -148,8 +148,8 @@ module _ (p : Plant) (fair label next : List ℕ) (rule : Rule) (full : length (
       })
 
   -- THE LAMP of a look, for any state
-  pub look-any : (m : Monitor) → Accepts (lookOf p fair label next rule m) → ShownBy T m (lookOf p fair label next rule m)
-  unfolding lookOf
+  pub look-any : (m : Monitor) → Accepts (lookCall p fair label next rule m) → ShownBy T m (lookCall p fair label next rule m)
+  unfolding lookCall
   look-any m a =
       let ok = passed-look _ (modelOf m) a in
       let (given, (keeps, breaks)) = look-accepted p fair label next rule full m .0 ok in
@@ -160,8 +160,8 @@ module _ (p : Plant) (fair label next : List ℕ) (rule : Rule) (full : length (
       both keeps breaks false = breaks
 
   -- THE STEP RULE, for any live set, state and event
-  pub step-any : (live : Pairs) (m : Monitor) (e : Event) → Accepts (stepOf p fair label next rule live m e .answer) → Stepped T f live m e (stepOf p fair label next rule live m e)
-  unfolding stepOf model.stepOf
+  pub step-any : (live : Pairs) (m : Monitor) (e : Event) → Accepts (stepCall p fair label next rule live m e .answer) → Stepped T f live m e (stepCall p fair label next rule live m e)
+  unfolding stepCall model.stepOf
   step-any live m e a =
       let new = model.stepOf T f (live .words) (modelOf m) (eventOf e) in
       let ok = passed _ m new a in
@@ -179,15 +179,15 @@ module _ (p : Plant) (fair label next : List ℕ) (rule : Rule) (full : length (
 
   -- A RESTART FLAG ON THE FIRST EVENT changes nothing, neither the answer nor the monitor, accepted or refused
   pub first-flag : (live : Pairs) (m : Monitor) (e : Event) → m .seen ≡ false
-      → stepOf p fair label next rule live m e ≡ stepOf p fair label next rule live m (record { see = e .see; val = e .val; new = false })
-  unfolding stepOf
+      → stepCall p fair label next rule live m e ≡ stepCall p fair label next rule live m (record { see = e .see; val = e .val; new = false })
+  unfolding stepCall
   first-flag live m e first = ap (watched (stepChecked p fair label next rule live m e) m) (first-restart T f (live .words) (modelOf m) (eventOf e) first)
 
   -- AT A LATER RESTART it plays no part how the pairs held were split: from two states that hold the same pairs the step goes to the same sets
   pub restart-any : (live : Pairs) (m other : Monitor) (e : Event) → e .new ≡ true → m .seen ≡ true → other .seen ≡ true
       → ((s v : ℕ) → ((b : Bool) × Sides m b s v) ↔ ((b : Bool) × Sides other b s v))
-      → Accepts (stepOf p fair label next rule live m e .answer) → Accepts (stepOf p fair label next rule live other e .answer) → (b : Bool) (s v : ℕ)
-      → inside (sideOf (stepOf p fair label next rule live m e .monitor) b) s v ≡ inside (sideOf (stepOf p fair label next rule live other e .monitor) b) s v
+      → Accepts (stepCall p fair label next rule live m e .answer) → Accepts (stepCall p fair label next rule live other e .answer) → (b : Bool) (s v : ℕ)
+      → inside (sideOf (stepCall p fair label next rule live m e .monitor) b) s v ≡ inside (sideOf (stepCall p fair label next rule live other e .monitor) b) s v
   restart-any live m other e new came came' same a a' b s v =
       says-same (Iff·trans (step-any live m e a .holds b s v) (turned m other came came' (λ s v. same s v .0), turned other m came' came (λ s v. same s v .1)))
       (step-any live other e a' .holds b s v)

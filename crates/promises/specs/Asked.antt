@@ -17,7 +17,7 @@ use Rattle.meaning.specs.Event.{History, since, now}
 use Rattle.meaning.specs.Verdict.{Chosen, At, Possible}
 use Rattle.words.specs.Truth.{not-so}
 use Rattle.words.specs.Over.{over}
-use Rattle.theory.specs.Join.{after}
+use Rattle.theory.specs.Join.{walkThen}
 use Rattle.theory.specs.Step.{pair-live}
 use Rattle.theory.specs.Values.{valuesAt, pair-of}
 use Rattle.theory.specs.Alive.{valuations-few}
@@ -42,7 +42,7 @@ use Rattle.checks.specs.Input.{Input}
 use Rattle.advance.specs.declared.Monitor.{Monitor}
 use Rattle.advance.specs.Held.{modelOf, eventOf}
 use Rattle.monitor.specs.declared.Watched.{Watched}
-use Rattle.monitor.specs.Calls.{lampOf, lit, lookOf, openOf}
+use Rattle.monitor.specs.Calls.{lampOf, lit, lookCall, openCall}
 use Rattle.monitor.specs.Promises.{look-accepted}
 use Rattle.watching.specs.Watching as watching
 use Rattle.watching.specs.Watching.{AllLegal, legalOnes, after-any, after-model}
@@ -62,7 +62,7 @@ pub record GoesOn (T : run.Plant) (f : Formula) (h : History) (b : Bool) (before
   pub short-loop : length (lasso .loop) ≤ 45056
   pub walk : List ℕ
   pub long : length walk ≡ now h
-  pub chosen : Chosen T f b h (after walk lasso)
+  pub chosen : Chosen T f b h (walkThen walk lasso)
 
 module _ (p : Plant) (fair label next : List ℕ) (rule : Rule) (given : Input p fair label next rule) where
   abbrev T : run.Plant
@@ -91,8 +91,8 @@ module _ (p : Plant) (fair label next : List ℕ) (rule : Rule) (given : Input p
     -- ---- looking
 
     -- a look shows the lamp that the last call showed
-    pub look-same : lookOf p fair label next rule m ≡ watching.after p fair label next rule es .answer
-    unfolding lookOf
+    pub look-same : lookCall p fair label next rule m ≡ watching.after p fair label next rule es .answer
+    unfolding lookCall
     look-same =
         ap (λ (o : Outcome). lit o (modelOf m)) (look-accepted p fair label next rule (watching.full p fair label next rule given) m .1 (given, (sets true, sets false)))
         ∙ ap lampOf is-seen ∙ sym (ap (λ (w : Watched). w .answer) (after-model p fair label next rule given es legal))
@@ -106,7 +106,7 @@ module _ (p : Plant) (fair label next : List ℕ) (rule : Rule) (given : Input p
       λ e.
           let (L, w) = witness-says T f (given .table) (given .few) (model.side seen b) .0 e in
           let (walk, _, c) = log.log-witness T f (given .table) (given .few) (map eventOf es) b L w in
-          (after walk L, c),
+          (walkThen walk L, c),
       λ (L, c).
           let s = stateAt L (now h) in
           let v = valuesAt T f L (now h) in
@@ -176,7 +176,7 @@ module _ (p : Plant) (fair label next : List ℕ) (rule : Rule) (given : Input p
         none-refused none = subst As (thirteen-exactly (length before) enough .1 none) answered
 
   -- before any event a look shows what `open` showed
-  pub look-opened : let opened = openOf p fair label next rule (watching.live p fair label next rule) in lookOf p fair label next rule (opened .monitor) ≡ opened .answer
+  pub look-opened : let opened = openCall p fair label next rule (watching.live p fair label next rule) in lookCall p fair label next rule (opened .monitor) ≡ opened .answer
   unfolding watching.after
   look-opened = look-same [] tt
 
@@ -199,5 +199,5 @@ module _ (p : Plant) (fair label next : List ℕ) (rule : Rule) (given : Input p
       after-any p fair label next rule given es ∙ sym (ap (λ (w : Watched). w .monitor) (after-model p fair label next rule given ones (ones-legal es)))
 
   -- and a look shows the lamp of the last accepted call
-  pub look-any : (es : List Event) → lookOf p fair label next rule (watching.after p fair label next rule es .monitor) ≡ watching.after p fair label next rule (legalOnes p fair label next rule es) .answer
-  look-any es = ap (lookOf p fair label next rule) (monitor-any es) ∙ look-same (legalOnes p fair label next rule es) (ones-legal es)
+  pub look-any : (es : List Event) → lookCall p fair label next rule (watching.after p fair label next rule es .monitor) ≡ watching.after p fair label next rule (legalOnes p fair label next rule es) .answer
+  look-any es = ap (lookCall p fair label next rule) (monitor-any es) ∙ look-same (legalOnes p fair label next rule es) (ones-legal es)

@@ -14,7 +14,7 @@ use Rattle.pairs.specs.declared.Pairs.{Pairs}
 use Rattle.pairs.specs.Sets.{inside}
 use Rattle.model.specs.Monitor.{side}
 use Rattle.answers.specs.declared.Kind.{Kind}
-use Rattle.answers.specs.declared.Kind.the-variants.{Counts, Bits, Value, Event as EventKind, Room, NoPair}
+use Rattle.answers.specs.declared.Kind.the-variants.{Counts, Bits, Value, IllegalEvent, Room, NoPair}
 use Rattle.answers.specs.Paper.{Paper, refused}
 use Rattle.plant.specs.declared.Plant.{Plant}
 use Rattle.plant.specs.Table.{plantOf, Lengths, BitBeyond}
@@ -102,7 +102,7 @@ module _ (p : Plant) (fair label next : List ℕ) (rule : Rule) where
   causes prepare = ofTable (row Value NoRule end)
   causes (opening live) = ofTable (row Value (NoRule ⊎ PairBeyond live) end)
   causes (look m) = ofTable (row Value (NoRule ⊎ StateBeyond m) end)
-  causes (step live m e) = ofTable (row Value (NoRule ⊎ (PairBeyond live ⊎ StateBeyond m)) (row EventKind (Illegal e) end))
+  causes (step live m e) = ofTable (row Value (NoRule ⊎ (PairBeyond live ⊎ StateBeyond m)) (row IllegalEvent (Illegal e) end))
   causes (witness m keeps buffer) = ofTable (row Value (NoRule ⊎ StateBeyond m) (row Room (length buffer < 49152) (row NoPair (NoLive m keeps) end)))
 
 -- ---- the printer

@@ -14,7 +14,7 @@ use Rattle.meaning.specs.Verdict.{Chosen, At, CanBe, Right}
 use Rattle.words.specs.Below.{countBelow}
 use Rattle.pairs.specs.Sets.{inside, emptyOf, occursIn}
 use Rattle.theory.specs.Narrow.{Narrower}
-use Rattle.theory.specs.Join.{after}
+use Rattle.theory.specs.Join.{walkThen}
 use Rattle.model.specs.Lives.{live-says}
 use Rattle.model.specs.Monitor as model
 use Rattle.model.specs.Shown.{occurs-says}
@@ -96,7 +96,7 @@ module _ (p : Plant) (fair label next : List ℕ) (rule : Rule) (given : Input p
     -- how a witness that is asked for now goes on: some walk that agrees with the events, joined with it, is a run of the asked kind, judged at
     -- the last restart
     pub witness-goes-on : (b : Bool) (L : Lasso) → Witness T f (sideOf (watching.after p fair label next rule es .monitor) b) L
-        → (walk : List ℕ) × (length walk ≡ now h) × Chosen T f b h (after walk L)
+        → (walk : List ℕ) × (length walk ≡ now h) × Chosen T f b h (walkThen walk L)
     witness-goes-on b L w = log.log-witness T f (given .table) (given .few) (map eventOf es) b L
         (subst (λ m. Witness T f (sideOf (m .monitor) b) L) (after-model p fair label next rule given es legal) w)
 

@@ -16,7 +16,7 @@ use Rattle.text.specs.Number.{widthOf}
 use Rattle.text.specs.Written.{smallOf}
 use Rattle.text.specs.Lines.{lineStart}
 use Rattle.answers.specs.declared.Kind.{Kind}
-use Rattle.answers.specs.declared.Kind.the-variants.{Bits, TableText, LogText, Event as EventKind, File as FileKind}
+use Rattle.answers.specs.declared.Kind.the-variants.{Bits, TableText, LogText, IllegalEvent, File as FileKind}
 use Rattle.answers.specs.declared.Lamp.{Lamp}
 use Rattle.answers.specs.declared.Answer.the-variants.{Shown}
 use Rattle.answers.specs.Paper.{refusedAt}
@@ -103,7 +103,7 @@ lineOf t k = lineStart (lineBytes (widthOf (t .props))) k
 -- where the lamps end, and with what: all events are legal, and there is nothing more; or event k is the first that is not, and is refused by 10 at the offset of its line
 pub data Ends (t : Plant) (es : List Event) : ℕ → List ℕ → Type 0 where
   at-end : ((n : ℕ) → n < length es → LegalAt t es n) → Ends t es (length es) []
-  at-event : (k : ℕ) → k < length es → ((n : ℕ) → n < k → LegalAt t es n) → (LegalAt t es k → ⊥) → Ends t es k (refused EventKind (lineOf t k))
+  at-event : (k : ℕ) → k < length es → ((n : ℕ) → n < k → LegalAt t es n) → (LegalAt t es k → ⊥) → Ends t es k (refused IllegalEvent (lineOf t k))
 
 -- the output: the start, a line for each lamp, the end. The start is right for no events, and line n for the events 0 to n
 pub record Shows (t : Plant) (f : Formula) (es : List Event) (output : List ℕ) : Type 0 where

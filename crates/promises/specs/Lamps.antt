@@ -17,7 +17,7 @@ use Rattle.pairs.specs.declared.Pairs.{Pairs}
 use Rattle.model.specs.LiveSet.{liveSet}
 use Rattle.model.specs.Sets.{PairSet}
 use Rattle.model.specs.Monitor as model
-use Rattle.answers.specs.declared.Kind.the-variants.{Event as EventKind}
+use Rattle.answers.specs.declared.Kind.the-variants.{IllegalEvent}
 use Rattle.answers.specs.declared.Lamp.{Lamp}
 use Rattle.answers.specs.declared.Answer.the-variants.{Shown}
 use Rattle.answers.specs.declared.Answer.the-variants as Answers
@@ -34,11 +34,11 @@ use Rattle.live.specs.Promises.{prepare-accepted}
 use Rattle.advance.specs.declared.Monitor.{Monitor}
 use Rattle.advance.specs.Held.{modelOf, eventOf, lampIn}
 use Rattle.monitor.specs.declared.Watched.{Watched}
-use Rattle.monitor.specs.Calls.{openOf, stepOf}
+use Rattle.monitor.specs.Calls.{openCall, stepCall}
 use Rattle.watching.specs.Watching as watching
 use Rattle.watching.specs.Watching.{AllLegal, after, after-model, shows, checks-pass, live-fits, open-held, full}
 use Rattle.course.specs.Course.{Course, takes, goOn, courseTo}
-use Rattle.course.specs.Right.{held-at}
+use Rattle.course.specs.CourseRight.{held-at}
 use Rattle.report.specs.Text.{startText}
 use Rattle.transcript.specs.Lines.{dark}
 use Rattle.transcript.specs.Said as said
@@ -74,10 +74,10 @@ module _ (p : Plant) (fair label next : List ℕ) (rule : Rule) (input : Input p
   fits = live-fits p fair label next rule input
 
   abbrev calls : Monitor → Event → Watched
-  calls = stepOf p fair label next rule known
+  calls = stepCall p fair label next rule known
 
   abbrev opened : Watched
-  opened = openOf p fair label next rule known
+  opened = openCall p fair label next rule known
 
   -- the model after some events
   abbrev seen : List Event → model.Monitor
@@ -115,7 +115,7 @@ module _ (p : Plant) (fair label next : List ℕ) (rule : Rule) (input : Input p
   data Gone (es : List Event) (n : ℕ) (c : Course) : Type 0 where
     all-taken : (lamps : List Lamp) → length lamps ≡ n → LegalTo es n → Lamps es lamps → c ≡ standing es n lamps → Gone es n c
     stopped : (k : ℕ) → k < n → (lamps : List Lamp) → length lamps ≡ k → LegalTo es k → (LegalAt T es k → ⊥) → Lamps es lamps → (m : Monitor)
-        → c ≡ record { went = record { outcome = Refused (refusedAt EventKind 0); done = k; monitor = m }; lamps = lamps } → Gone es n c
+        → c ≡ record { went = record { outcome = Refused (refusedAt IllegalEvent 0); done = k; monitor = m }; lamps = lamps } → Gone es n c
 
   module _ (es : List Event) (n : ℕ) (before : n < length es) (lamps : List Lamp) (many : length lamps ≡ n) (legal : LegalTo es n) (right : Lamps es lamps) where
     abbrev e : Event
@@ -161,7 +161,7 @@ module _ (p : Plant) (fair label next : List ℕ) (rule : Rule) (input : Input p
     stops : watching.Held p fair label next rule now → legalOf e (p .props) ≡ false → Gone es (suc n) (takes (standing es n lamps) (calls now e) (calls now e .answer))
     stops held t = rw refuses (stopped n (omega arith) lamps many legal (not-legal e t) right now refl)
       where
-        refuses : calls now e ≡ record { answer = Answers.Refused (refusedAt EventKind 0); monitor = now }
+        refuses : calls now e ≡ record { answer = Answers.Refused (refusedAt IllegalEvent 0); monitor = now }
         refuses = checks-pass p fair label next rule input known fits now held e ∙ ap (λ (b : Bool). watching.takes b now (model.stepOf T f (known .words) (modelOf now) (eventOf e))) t
 
   module _ (es : List Event) (event : ℕ → Event) (same : (k : ℕ) → event k ≡ getD es k nothing) where
@@ -204,11 +204,11 @@ module _ (p : Plant) (fair label next : List ℕ) (rule : Rule) (input : Input p
   shown es output c (stopped k before lamps many legal bad right m is) e = record {
     start = first;
     lamps = lamps;
-    end = refused EventKind (lineOf T k);
+    end = refused IllegalEvent (lineOf T k);
     is = e ∙ rw is refl;
     start-right = first-lit;
     line-right = right;
-    ends = subst (λ (n : ℕ). Ends T es n (refused EventKind (lineOf T k))) (sym many) (at-event k before legal bad);
+    ends = subst (λ (n : ℕ). Ends T es n (refused IllegalEvent (lineOf T k))) (sym many) (at-event k before legal bad);
   }
 
   -- what the program writes for an accepted table and rule, and a log that is accepted

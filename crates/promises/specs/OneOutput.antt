@@ -19,7 +19,7 @@ use Rattle.meaning.specs.Limits.{AcceptedTable}
 use Rattle.meaning.specs.Verdict.{Right}
 use Rattle.answers.specs.declared.Verdict.{Verdict}
 use Rattle.answers.specs.declared.Verdict.the-variants.{Inconclusive, True, False, OutOfModel}
-use Rattle.answers.specs.declared.Kind.the-variants.{Event as EventKind}
+use Rattle.answers.specs.declared.Kind.the-variants.{IllegalEvent}
 use Rattle.answers.specs.declared.Lamp.{Lamp}
 use Rattle.answers.specs.declared.Answer.{Answer}
 use Rattle.answers.specs.declared.Answer.the-variants.{Shown}
@@ -105,7 +105,7 @@ module _ (t : Plant) (f : Formula) where
   end-one (at-end a) (at-end b) = (refl, refl)
   end-one (at-end a) (at-event m low b bad) = absurd (bad (a m low))
   end-one (at-event k low a bad) (at-end b) = absurd (bad (b k low))
-  end-one (at-event k low a bad) (at-event m low' b bad') = (same, ap (λ (n : ℕ). door.refused EventKind (door.lineOf t n)) same)
+  end-one (at-event k low a bad) (at-event m low' b bad') = (same, ap (λ (n : ℕ). door.refused IllegalEvent (door.lineOf t n)) same)
     where
       same : k ≡ m
       same =

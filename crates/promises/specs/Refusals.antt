@@ -27,7 +27,7 @@ use Rattle.model.specs.Lives.{live-says}
 use Rattle.model.specs.Reaching.{meet-says}
 use Rattle.model.specs.Witness.{hasLive}
 use Rattle.answers.specs.declared.Kind.{Kind}
-use Rattle.answers.specs.declared.Kind.the-variants.{Counts, Bits, Value, Event as EventKind, Room, NoPair}
+use Rattle.answers.specs.declared.Kind.the-variants.{Counts, Bits, Value, IllegalEvent, Room, NoPair}
 use Rattle.answers.specs.declared.Outcome.{Outcome}
 use Rattle.answers.specs.declared.Outcome.the-variants.{Accepted, Refused}
 use Rattle.answers.specs.Paper.{Paper, refused, kindNumber, paper, outcome}
@@ -52,7 +52,7 @@ use Rattle.advance.specs.declared.Monitor.{Monitor}
 use Rattle.advance.specs.Held.{modelOf}
 use Rattle.live.specs.Prepare.{preparedOf}
 use Rattle.live.specs.Promises.{prepare-outcome}
-use Rattle.monitor.specs.Calls.{watched, lit, checkedOf, openOf, lookOf, stepChecked, stepOf}
+use Rattle.monitor.specs.Calls.{watched, lit, checkedOf, openCall, lookCall, stepChecked, stepCall}
 use Rattle.witness.specs.declared.Witnessed.{Witnessed}
 use Rattle.witness.specs.Calls.{AnsweredAs, Answered, askedOf, witnessOutcome}
 use Rattle.witness.specs.OnPaper.{witnessed}
@@ -140,9 +140,9 @@ module _ (p : Plant) (fair label next : List ℕ) (rule : Rule) where
   -- an answer on paper that the contract of a call allows. That of the step in place is the step's by value
   abbrev pub Answers : Call → Paper → Type 0
   Answers prepare a = a ≡ outcome (preparedOf p fair label next rule .outcome)
-  Answers (opening live) a = a ≡ paper (openOf p fair label next rule live .answer)
-  Answers (look m) a = a ≡ paper (lookOf p fair label next rule m)
-  Answers (step live m e) a = a ≡ paper (stepOf p fair label next rule live m e .answer)
+  Answers (opening live) a = a ≡ paper (openCall p fair label next rule live .answer)
+  Answers (look m) a = a ≡ paper (lookCall p fair label next rule m)
+  Answers (step live m e) a = a ≡ paper (stepCall p fair label next rule live m e .answer)
   Answers (witness m keeps buffer) a = (r : Witnessed) × (now : List ℕ) × Answered p fair label next rule m keeps buffer now r × (a ≡ witnessed r)
 
   abbrev T : run.Plant
@@ -167,7 +167,7 @@ module _ (p : Plant) (fair label next : List ℕ) (rule : Rule) where
   checksOf (witness m keeps buffer) = witnessOutcome p fair label next rule m keeps (length buffer)
 
   tells : (c : Call) (a : Paper) → Answers c a → Tells a (checksOf c)
-  unfolding openOf lookOf stepOf
+  unfolding openCall lookCall stepCall
   tells prepare a e = subst (λ (a : Paper). Tells a (checksOf prepare)) (sym (e ∙ ap outcome (prepare-outcome p fair label next rule))) (outcome-tells (checksOf prepare))
   tells (opening live) a e = subst (λ (a : Paper). Tells a (checksOf (opening live))) (sym e) (watched-tells (checksOf (opening live)) _ _)
   tells (look m) a e = subst (λ (a : Paper). Tells a (checksOf (look m))) (sym e) (lit-tells (checksOf (look m)) _)
@@ -290,7 +290,7 @@ module _ (p : Plant) (fair label next : List ℕ) (rule : Rule) where
     judged prepare z = ended (subst (Judged _) (sym (in-turn checked (unless valid Value) Accepted)) (judged-table (λ e. judged-row Value valid finds-rule (λ so. judged-end))))
     judged (opening live) z = ended (judged-value (finds-beyond live z) (λ i. judged-end))
     judged (look m) z = ended (judged-value (finds-state m z) (λ i. judged-end))
-    judged (step live m e) (l, z) = judged-value (finds-either (finds-beyond live l) (finds-state m z)) (λ i. ended (judged-row EventKind _ (finds-not (legal-says T (seenOf e))) (λ so. judged-end)))
+    judged (step live m e) (l, z) = judged-value (finds-either (finds-beyond live l) (finds-state m z)) (λ i. ended (judged-row IllegalEvent _ (finds-not (legal-says T (seenOf e))) (λ so. judged-end)))
     judged (witness m keeps buffer) z =
         subst (Judged _) (sym (in-turn (checkedOf p fair label next rule (stateFits m)) _ _))
         (judged-value (finds-state m z) (λ i. judged-row Room _ (finds-so (lt-says (length buffer) 49152)) (λ so. ended (judged-row NoPair _ (finds-live i m keeps) (λ so. judged-end)))))

@@ -90,8 +90,8 @@ pub behind : (k : ℕ) (xs : List ℕ) → take (length xs - k) (drop k xs) ≡ 
 behind k xs = take-all (length xs - k) (drop k xs) (omega (arith, length-drop k xs))
 
 -- the two parts `xs[..k]` and `xs[k..]` have all of it
-pub both : (k : ℕ) (xs : List ℕ) → k ≤ length xs → length (take k xs) + length (take (length xs - k) (drop k xs)) ≡ length xs
-both k xs low = omega (arith, length-take-le k xs low, ap (λ (l : List ℕ). length l) (behind k xs), length-drop k xs)
+pub both-parts : (k : ℕ) (xs : List ℕ) → k ≤ length xs → length (take k xs) + length (take (length xs - k) (drop k xs)) ≡ length xs
+both-parts k xs low = omega (arith, length-take-le k xs low, ap (λ (l : List ℕ). length l) (behind k xs), length-drop k xs)
 
 -- where the tail `&mut buffer[at..]` is lent to `bytes::copy` and comes back
 pub copied : (b : List ℕ) (at : ℕ) (text last : List ℕ) → at + length text ≤ length b → last ≡ take (length text) text ++ drop (length text) (take (length b - at) (drop at b)) →

@@ -3,12 +3,12 @@ use mathlib.Core.Path.{_≡_, refl}
 use mathlib.Core.Bool.{true, false}
 use mathlib.Core.List.{[], _∷_}
 use Rattle.answers.specs.Paper.{refusedAt}
-use Rattle.answers.specs.declared.Kind.the-variants.{Event, NoPair}
+use Rattle.answers.specs.declared.Kind.the-variants.{IllegalEvent, NoPair}
 use Rattle.answers.specs.declared.Verdict.the-variants.{True}
 use Rattle.report.specs.Text.{placesFrom, refusedText, lampText, statesText, runText, noRunText}
 
 -- `refused=10 place=120`
-pub refused : refusedText (refusedAt Event 120) ≡ 114 ∷ 101 ∷ 102 ∷ 117 ∷ 115 ∷ 101 ∷ 100 ∷ 61 ∷ 49 ∷ 48 ∷ 32 ∷ 112 ∷ 108 ∷ 97 ∷ 99 ∷ 101 ∷ 61 ∷ 49 ∷ 50 ∷ 48 ∷ 10 ∷ []
+pub refused : refusedText (refusedAt IllegalEvent 120) ≡ 114 ∷ 101 ∷ 102 ∷ 117 ∷ 115 ∷ 101 ∷ 100 ∷ 61 ∷ 49 ∷ 48 ∷ 32 ∷ 112 ∷ 108 ∷ 97 ∷ 99 ∷ 101 ∷ 61 ∷ 49 ∷ 50 ∷ 48 ∷ 10 ∷ []
 unfolding placesFrom
 refused = refl
 

@@ -50,8 +50,8 @@ unfolding every opsOf
 blanks zero = refl
 blanks (suc n) = blanks n
 
-both : {x y : Bool} → x ≡ true → y ≡ true → (x && y) ≡ true
-both {x} {y} e f = ap (λ b. b && y) e ∙ f
+both-so : {x y : Bool} → x ≡ true → y ≡ true → (x && y) ≡ true
+both-so {x} {y} e f = ap (λ b. b && y) e ∙ f
 
 -- each proposition of a rule is below q exactly where each of its nodes is
 module _ (q : ℕ) where
@@ -65,13 +65,13 @@ module _ (q : ℕ) where
   below-one : (o : Op) → known q o ≡ true → (a : Formula) {B : Type 0} → Exactly (postfix a) B → Exactly (postfix a ++ o ∷ []) B
   below-one o e a x =
       let s = every-append (known q) (postfix a) (o ∷ []) in
-      (λ h. x .0 (both-true _ _ (sym s ∙ h) .0), λ b. s ∙ both (x .1 b) (below-leaf o e))
+      (λ h. x .0 (both-true _ _ (sym s ∙ h) .0), λ b. s ∙ both-so (x .1 b) (below-leaf o e))
 
   below-two : (o : Op) → known q o ≡ true → (a b : Formula) {A B : Type 0} → Exactly (postfix a) A → Exactly (postfix b) B → Exactly (postfix a ++ (postfix b ++ o ∷ [])) (A × B)
   below-two o e a b x y =
       let s = every-append (known q) (postfix a) (postfix b ++ o ∷ []) in
       let z = below-one o e b y in
-      (λ h. let p = both-true _ _ (sym s ∙ h) in (x .0 (p .0), z .0 (p .1)), λ c. s ∙ both (x .1 (c .0)) (z .1 (c .1)))
+      (λ h. let p = both-true _ _ (sym s ∙ h) in (x .0 (p .0), z .0 (p .1)), λ c. s ∙ both-so (x .1 (c .0)) (z .1 (c .1)))
 
   pub below-nodes : (f : Formula) → Exactly (postfix f) (Below q f)
   unfolding postfix Below every
@@ -95,7 +95,7 @@ rule-valid {r} {q} v = ap (λ x. validOf x q) (v .is) ∙ go (v .formula) (v .sm
     go f h g b =
         let e = held-is f in
         let p = parts-held f in
-        both (both (both (both (le-leb (size f) mostNodes h) (ap (λ os. whole os 0) e ∙ rule-whole f)) (ap (every (known q)) e ∙ below-nodes q f .1 b)) (le-leb (count (held (ruleOf f))) mostParts (omega arith)))
+        both-so (both-so (both-so (both-so (le-leb (size f) mostNodes h) (ap (λ os. whole os 0) e ∙ rule-whole f)) (ap (every (known q)) e ∙ below-nodes q f .1 b)) (le-leb (count (held (ruleOf f))) mostParts (omega arith)))
         (ap (every isFalse) (beyond-is f) ∙ blanks (mostNodes - size f))
 
 -- what a valid value's test says

@@ -1,7 +1,7 @@
 pub mod Sweeps
 pub mod Scan
 pub mod Laws
-pub mod Right
+pub mod SweepsRight
 pub mod Rounds
 pub mod Turns
 pub mod Lives

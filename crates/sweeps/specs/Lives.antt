@@ -27,7 +27,7 @@ use Rattle.model.specs.Reaching.{meet-set, reaching-set}
 use Rattle.model.specs.Lives.{Keeping, keeping-start, keeping-more}
 use Rattle.model.specs.Settle.{settle-same}
 use Rattle.sweeps.specs.Sweeps.{reachingOf}
-use Rattle.sweeps.specs.Right.{Moves, movers-right, reaching-right}
+use Rattle.sweeps.specs.SweepsRight.{Moves, movers-right, reaching-right}
 use Rattle.sweeps.specs.Rounds.{everyOf, settledIn, goalOf, goalsAfter, roundOf, settleOf}
 
 module _ (T : Plant) (f : Formula) (A : AcceptedTable T) (small : Small f) (leave enter : List ℕ) (m : Moves T f leave enter)

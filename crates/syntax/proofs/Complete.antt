@@ -11,7 +11,7 @@ use Rattle.syntax.specs.declared.Token.{Token}
 use Rattle.syntax.specs.declared.Token.the-variants.{Leaf, Prefix, Infix, Open, Close, End}
 use Rattle.syntax.specs.Grammar.{Level, arrows, ors, ands, untils, prefixes, leaves, tighter, Side, left, right, Atom, is-false, is-true, is-prop, Unary, is-not, is-next, is-finally, is-globally, Binary, is-implies, is-or, is-and, is-until, is-release, Text, atom, group, unary, lefts, rights, tight}
 use Rattle.syntax.specs.Postfix.{postfix}
-use Rattle.syntax.specs.Reader.{Got, stay, after, closed, onward, place, rank, head, tail, begins, read, more}
+use Rattle.syntax.specs.Reader.{Got, stay, writtenFirst, closed, onward, place, rank, head, tail, begins, read, more}
 use Rattle.syntax.proofs.Stable.{unpicked}
 
 -- P holds from some fuel on
@@ -25,8 +25,8 @@ later {P} e = (suc (e .0), go)
     go zero h = absurd (omega arith)
     go (suc n) h = e .1 n (omega arith)
 
-pub both : {P Q R : ℕ → Type 0} → Ev P → Ev Q → ((n : ℕ) → P n → Q n → R n) → Ev R
-both p q k = (p .0 + q .0, λ n h. k n (p .1 n (omega arith)) (q .1 n (omega arith)))
+pub ev-both : {P Q R : ℕ → Type 0} → Ev P → Ev Q → ((n : ℕ) → P n → Q n → R n) → Ev R
+ev-both p q k = (p .0 + q .0, λ n h. k n (p .1 n (omega arith)) (q .1 n (omega arith)))
 
 pub map : {P Q : ℕ → Type 0} → Ev P → ((n : ℕ) → P n → Q n) → Ev Q
 map p k = (p .0, λ n h. k n (p .1 n h))
@@ -162,7 +162,7 @@ bound-right is-release = omega arith
 
 -- the reader reads ts as the rule f of the level, whatever may follow: us, of which it then reads R
 record Reads (l : Level) (f : Formula) (ts : List Token) : Type 0 where
-  by : (us : List Token) (R : Got) → front us ≤ bound l → Ev (λ n. more n l us ≡ R) → Ev (λ n. read n l (ts ++ us) ≡ after (postfix f) R)
+  by : (us : List Token) (R : Got) → front us ≤ bound l → Ev (λ n. more n l us ≡ R) → Ev (λ n. read n l (ts ++ us) ≡ writtenFirst (postfix f) R)
 
 -- where nothing follows on the level, nothing is read
 settled : (l : Level) (us : List Token) (R : Got) → front us ≤ rank l → Ev (λ n. more n l us ≡ R) → R ≡ stay us
@@ -170,15 +170,15 @@ settled l us R h e = let q = quiet l us h in sym (e .1 (e .0 + q .0) (omega arit
 
 -- an expression of the tighter level, alone: it is read up to us
 alone : (l : Level) {f : Formula} {ts : List Token} → Reads (tighter l) f ts → (us : List Token) → front us ≤ bound (tighter l) → front us ≤ rank (tighter l)
-    → Ev (λ n. read n (tighter l) (ts ++ us) ≡ after (postfix f) (stay us))
+    → Ev (λ n. read n (tighter l) (ts ++ us) ≡ writtenFirst (postfix f) (stay us))
 alone l r us h g = r .by us (stay us) h (quiet (tighter l) us g)
 
 -- an operand, and then what is read of us
 joined : {l : Level} {d : Side} {o : Op} {j : Formula → Formula → Formula} → Binary l d o j → {f : Formula} {ts : List Token} → Reads (tighter l) f ts
-    → (us : List Token) (R : Got) → front us ≤ bound (tighter l) → front us ≤ rank (tighter l) → Ev (λ n. more n l us ≡ R) → Ev (λ n. read n l (ts ++ us) ≡ after (postfix f) R)
+    → (us : List Token) (R : Got) → front us ≤ bound (tighter l) → front us ≤ rank (tighter l) → Ev (λ n. more n l us ≡ R) → Ev (λ n. read n l (ts ++ us) ≡ writtenFirst (postfix f) R)
 joined {l} b {f} {ts} r us R h g e =
-    later (both (alone l r us h g) e (λ n a c. below b n (ts ++ us) ∙ ap (onward (λ vs. more n l vs)) a
-    ∙ ap (λ xs. after xs (more n l us)) (append-nil (postfix f)) ∙ ap (after (postfix f)) c))
+    later (ev-both (alone l r us h g) e (λ n a c. below b n (ts ++ us) ∙ ap (onward (λ vs. more n l vs)) a
+    ∙ ap (λ xs. writtenFirst xs (more n l us)) (append-nil (postfix f)) ∙ ap (writtenFirst (postfix f)) c))
 
 no-leaf : {l : Level} {d : Side} {o : Op} {j : Formula → Formula → Formula} → Binary l d o j → l ≡ leaves → _≡_ {A = ℕ} 0 1
 no-leaf is-implies e = cc
@@ -198,7 +198,7 @@ leaf-first (rights b p q) e us = absurd (omega (arith, no-leaf b e))
 leaf-first (tight {l} t) e us = leaf-first t (ap tighter e) us
 
 loosen : (l : Level) {f : Formula} {ts : List Token} → Text (tighter l) f ts → Reads (tighter l) f ts → (us : List Token) (R : Got) → front us ≤ bound l → Ev (λ n. more n l us ≡ R)
-    → Ev (λ n. read n l (ts ++ us) ≡ after (postfix f) R)
+    → Ev (λ n. read n l (ts ++ us) ≡ writtenFirst (postfix f) R)
 unfolding tighter read bound rank
 loosen arrows t r us R h e = joined is-implies r us R (omega (arith, bound-rises arrows)) (omega (arith, bound-tighter arrows)) e
 loosen ors t r us R h e = joined is-or r us R (omega (arith, bound-rises ors)) (omega (arith, bound-tighter ors)) e
@@ -211,19 +211,19 @@ loosen leaves t r us R h e = r .by us R h e
 
 -- an operator of a two-sided level, with its right operand: read, and written behind
 left-rest : {l : Level} {o : Op} {j : Formula → Formula → Formula} → Binary l left o j → {g : Formula} {t : List Token} → Reads (tighter l) g t
-    → (us : List Token) (R : Got) → front us ≤ bound l → Ev (λ n. more n l us ≡ R) → Ev (λ n. more n l (Infix o ∷ t ++ us) ≡ after (postfix g ++ o ∷ []) R)
+    → (us : List Token) (R : Got) → front us ≤ bound l → Ev (λ n. more n l us ≡ R) → Ev (λ n. more n l (Infix o ∷ t ++ us) ≡ writtenFirst (postfix g ++ o ∷ []) R)
 left-rest {l} {o} b {g} {t} r us R h e =
-    later (both (alone l r us (omega (arith, bound-rises l)) (omega (arith, bound-tighter l))) e (λ n a c. follow-left b n (t ++ us)
-    ∙ ap (λ x. onward (λ vs. more n l vs) (closed o x)) a ∙ ap (λ xs. after (xs ++ o ∷ []) (more n l us)) (append-nil (postfix g)) ∙ ap (after (postfix g ++ o ∷ [])) c))
+    later (ev-both (alone l r us (omega (arith, bound-rises l)) (omega (arith, bound-tighter l))) e (λ n a c. follow-left b n (t ++ us)
+    ∙ ap (λ x. onward (λ vs. more n l vs) (closed o x)) a ∙ ap (λ xs. writtenFirst (xs ++ o ∷ []) (more n l us)) (append-nil (postfix g)) ∙ ap (writtenFirst (postfix g ++ o ∷ [])) c))
 
 right-rest : {l : Level} {o : Op} {j : Formula → Formula → Formula} → Binary l right o j → {g : Formula} {t : List Token} → Reads l g t
-    → (us : List Token) → front us ≤ bound l → Ev (λ n. more n l (Infix o ∷ t ++ us) ≡ after (postfix g ++ o ∷ []) (stay us))
+    → (us : List Token) → front us ≤ bound l → Ev (λ n. more n l (Infix o ∷ t ++ us) ≡ writtenFirst (postfix g ++ o ∷ []) (stay us))
 right-rest {l} {o} b {g} {t} r us h =
     later (map (r .by us (stay us) h (quiet l us (omega (arith, bound-right b)))) (λ n a. follow-right b n (t ++ us)
     ∙ ap (closed o) a ∙ ap (λ xs. record { out = xs; rest = us }) (ap (λ xs. xs ++ o ∷ []) (append-nil (postfix g)) ∙ sym (append-nil (postfix g ++ o ∷ [])))))
 
 -- the nodes of a two-sided rule
-regroup : {l : Level} {d : Side} {o : Op} {j : Formula → Formula → Formula} → Binary l d o j → (f g : Formula) (R : Got) → after (postfix f) (after (postfix g ++ o ∷ []) R) ≡ after (postfix (j f g)) R
+regroup : {l : Level} {d : Side} {o : Op} {j : Formula → Formula → Formula} → Binary l d o j → (f g : Formula) (R : Got) → writtenFirst (postfix f) (writtenFirst (postfix g ++ o ∷ []) R) ≡ writtenFirst (postfix (j f g)) R
 regroup {o} b f g R = ap (λ xs. record { out = xs; rest = R .rest }) (sym (append-assoc (postfix f) (postfix g ++ o ∷ []) (R .out)) ∙ ap (λ xs. xs ++ R .out) (sym (postfix-binary b f g)))
 
 complete : {l : Level} {f : Formula} {ts : List Token} → Text l f ts → Reads l f ts
@@ -245,13 +245,13 @@ complete (unary {o} {u} {f} {s} b t) = record {
 }
 complete (lefts {l} {o} {j} {f} {g} {s} {t} b p q) = record {
   by = λ us R h e.
-      map (complete p .by (Infix o ∷ t ++ us) (after (postfix g ++ o ∷ []) R) (front-left b (t ++ us)) (left-rest b (complete q) us R h e))
+      map (complete p .by (Infix o ∷ t ++ us) (writtenFirst (postfix g ++ o ∷ []) R) (front-left b (t ++ us)) (left-rest b (complete q) us R h e))
       (λ n a. ap (read n l) (append-assoc s (Infix o ∷ t) us) ∙ a ∙ regroup b f g R);
 }
 complete (rights {l} {o} {j} {f} {g} {s} {t} b p q) = record {
   by = λ us R h e.
       rw (settled l us R (omega (arith, bound-right b)) e)
-      (map (joined b (complete p) (Infix o ∷ t ++ us) (after (postfix g ++ o ∷ []) (stay us)) (front-tighter b (t ++ us)) (front-next b (t ++ us)) (right-rest b (complete q) us h))
+      (map (joined b (complete p) (Infix o ∷ t ++ us) (writtenFirst (postfix g ++ o ∷ []) (stay us)) (front-tighter b (t ++ us)) (front-next b (t ++ us)) (right-rest b (complete q) us h))
       (λ n a. ap (read n l) (append-assoc s (Infix o ∷ t) us) ∙ a ∙ regroup b f g (stay us)));
 }
 complete (tight {l} t) = record { by = loosen l t (complete t) }

@@ -8,7 +8,7 @@ use borrow.Author.Tests.{eqb-true}
 use lib.ListN.{length}
 use Rattle.syntax.specs.declared.Token.{Token}
 use Rattle.syntax.specs.Grammar.{Level, arrows, ors, ands, untils, prefixes, leaves}
-use Rattle.syntax.specs.Reader.{Got, stay, after, closed, onward, opOf, head, tail, begins, read, more}
+use Rattle.syntax.specs.Reader.{Got, stay, writtenFirst, closed, onward, opOf, head, tail, begins, read, more}
 
 -- how many calls deep the reader goes without reading a token
 unfoldable pub height : Level → ℕ
@@ -45,7 +45,7 @@ pick-both true f g = f refl
 pick-both false f g = g refl
 
 onward-both : (k k′ : List Token → Got) {g g′ : Got} → g ≡ g′ → k (g′ .rest) ≡ k′ (g′ .rest) → onward k g ≡ onward k′ g′
-onward-both k k′ {g} {g′} e f = ap (onward k) e ∙ ap (after (g′ .out)) f
+onward-both k k′ {g} {g′} e f = ap (onward k) e ∙ ap (writtenFirst (g′ .out)) f
 
 -- g leaves no more than ts
 abbrev Within : List Token → Got → Type 0

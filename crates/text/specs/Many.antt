@@ -10,7 +10,7 @@ use lib.ListN.{length, drop, length-append}
 use Rattle.text.specs.Slot.{Slot, matched}
 use Rattle.text.specs.Matched.{matched-slots, matched-all, matched-less, matched-more, matched-both}
 use Rattle.text.specs.Form.{Form, Reads}
-use Rattle.text.specs.After.{after, goes-on}
+use Rattle.text.specs.After.{cursorAfter, goes-on}
 use Rattle.text.specs.Took.{Took, drop-after}
 use Rattle.text.specs.declared.Cursor.{Cursor}
 
@@ -82,13 +82,13 @@ module _ {A : Type 0} (F : ℕ → Form A) (len : ℕ → ℕ) (fixed : (k : ℕ
 
     -- a turn of a loop that reads them
     pub below-turn :
-        (s : List ℕ) (c d e : Cursor) (n : ℕ) (v : A) → d ≡ after s c (slotsBelow F n (guessAt F len (drop (c .at) s))) → Took (F n) s d v e
-        → (v ≡ guessAt F len (drop (c .at) s) n) × (e ≡ after s c (slotsBelow F (n + 1) (guessAt F len (drop (c .at) s))))
+        (s : List ℕ) (c d e : Cursor) (n : ℕ) (v : A) → d ≡ cursorAfter s c (slotsBelow F n (guessAt F len (drop (c .at) s))) → Took (F n) s d v e
+        → (v ≡ guessAt F len (drop (c .at) s) n) × (e ≡ cursorAfter s c (slotsBelow F (n + 1) (guessAt F len (drop (c .at) s))))
     unfolding slotsBelow
     below-turn s c d e n v p t =
         let g = guessAt F len (drop (c .at) s) in
         let i : v ≡ g n = t .is ∙ ap (F n .guess) (drop-after s c d (slotsBelow F n g) p ∙ ap (λ (k : ℕ). drop k (drop (c .at) s)) (below-length n g (λ k l. reads k .fine (drop (offset len k) (drop (c .at) s))))) in
-        (i, rw add-one (goes-on s c d e (slotsBelow F n g) (F n .slots (g n)) p (t .goes ∙ ap (λ (x : A). after s d (F n .slots x)) i)))
+        (i, rw add-one (goes-on s c d e (slotsBelow F n g) (F n .slots (g n)) p (t .goes ∙ ap (λ (x : A). cursorAfter s d (F n .slots x)) i)))
 
 -- ---- the values in a list, or in lists: `get` takes the one numbered k out, and `make` makes them of all
 
@@ -102,11 +102,11 @@ listed F len n Sized get make =
 
 module _ {A B : Type 0} (F : ℕ → Form A) (len : ℕ → ℕ) (fixed : (k : ℕ) (a : A) → F k .Ok a → length (F k .slots a) ≡ len k) (n : ℕ) (Sized : B → Type 0) (get : B → ℕ → A) (make : (ℕ → A) → B) (sized : (f : ℕ → A) → Sized (make f)) (got : (f : ℕ → A) (k : ℕ) → k < n → get (make f) k ≡ f k) where
   pub listed-goes :
-      (s : List ℕ) (c e : Cursor) → e ≡ after s c (slotsBelow F n (guessAt F len (drop (c .at) s)))
+      (s : List ℕ) (c e : Cursor) → e ≡ cursorAfter s c (slotsBelow F n (guessAt F len (drop (c .at) s)))
       → Took (listed F len n Sized get make) s c (make (guessAt F len (drop (c .at) s))) e
   unfolding listed
   listed-goes s c e p =
-      record { is = refl; goes = p ∙ ap (after s c) (below-same F n (guessAt F len (drop (c .at) s)) (get (make (guessAt F len (drop (c .at) s)))) (λ k l. sym (got _ k l))) }
+      record { is = refl; goes = p ∙ ap (cursorAfter s c) (below-same F n (guessAt F len (drop (c .at) s)) (get (make (guessAt F len (drop (c .at) s)))) (λ k l. sym (got _ k l))) }
 
   pub reads-listed : ((k : ℕ) → Reads (F k)) → ((b : B) (f : ℕ → A) → Sized b → ((k : ℕ) → k < n → f k ≡ get b k) → make f ≡ b) → Reads (listed F len n Sized get make)
   unfolding listed

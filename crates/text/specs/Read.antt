@@ -16,27 +16,27 @@ use Rattle.text.specs.Slot.{exactly, digit, admits, digitValue}
 use Rattle.text.specs.Number.{digitOr0, hexSlots, hexGuess, countSlots, leadOf, nextOf, lastOf, countOf, countGuess}
 use Rattle.text.specs.Count.{count-within}
 use Rattle.text.specs.Hex.{digit-of}
-use Rattle.text.specs.After.{after, meets, stepOf, goes-on}
+use Rattle.text.specs.After.{cursorAfter, meets, further, goes-on}
 use Rattle.text.specs.declared.Cursor.{Cursor}
 
 -- the digit behind c, and the cursor behind it
 pub record IsDigit (s : List ℕ) (c : Cursor) (value : ℕ) (next : Cursor) : Type 0 where
   pub is : value ≡ digitOr0 (getD s (c .at) 0)
-  pub slots : next ≡ after s c (digit value ∷ [])
+  pub slots : next ≡ cursorAfter s c (digit value ∷ [])
   pub small : value < 16
   pub at : next .at ≡ c .at + 1
 
 -- the hexadecimal number behind c, and the cursor behind it
 pub record IsHex (s : List ℕ) (c : Cursor) (width value : ℕ) (next : Cursor) : Type 0 where
   pub is : value ≡ hexGuess width (drop (c .at) s)
-  pub slots : next ≡ after s c (hexSlots width value)
+  pub slots : next ≡ cursorAfter s c (hexSlots width value)
   pub small : value < 16 ^ width
   pub at : next .at ≡ c .at + width
 
 -- the count behind c with its end, and the cursor behind it
 pub record IsCount (s : List ℕ) (c : Cursor) (end lo hi value : ℕ) (next : Cursor) : Type 0 where
   pub is : value ≡ countGuess lo hi (drop (c .at) s)
-  pub slots : next ≡ after s c (countSlots end value)
+  pub slots : next ≡ cursorAfter s c (countSlots end value)
   pub at : next .at ≤ c .at + 3
   pub low : lo ≤ value
   pub high : value ≤ hi
@@ -81,29 +81,29 @@ hex-turn s c d e i value x p h g =
     })
 
 pub digit-yes :
-    (s : List ℕ) (c e : Cursor) (v : ℕ) → v ≡ digitValue (getD s (c .at) 0) → v < 16 → (e ≡ stepOf c true) × (e .at ≡ c .at + 1) → IsDigit s c v e
-unfolding after
+    (s : List ℕ) (c e : Cursor) (v : ℕ) → v ≡ digitValue (getD s (c .at) 0) → v < 16 → (e ≡ further c true) × (e .at ≡ c .at + 1) → IsDigit s c v e
+unfolding cursorAfter
 digit-yes s c e v q h r =
     let i : v ≡ digitOr0 (getD s (c .at) 0) = sym (digit-of (getD s (c .at) 0) v (sym q) h) in
     let m : true ≡ meets s (c .at) (digit v) = sym (ap (λ (x : ℕ). meets s (c .at) (digit x)) i ∙ meets-digit s (c .at) ∙ lt-ltb _ 16 (rw q at h)) in
-    record { is = i; slots = r .0 ∙ ap (stepOf c) m; small = h; at = r .1 }
+    record { is = i; slots = r .0 ∙ ap (further c) m; small = h; at = r .1 }
 
 pub digit-no :
-    (s : List ℕ) (c e : Cursor) (v : ℕ) → v ≡ digitValue (getD s (c .at) 0) → 16 ≤ v → (e ≡ stepOf c false) × (e .at ≡ c .at + 1) → IsDigit s c 0 e
-unfolding after digitOr0
+    (s : List ℕ) (c e : Cursor) (v : ℕ) → v ≡ digitValue (getD s (c .at) 0) → 16 ≤ v → (e ≡ further c false) × (e .at ≡ c .at + 1) → IsDigit s c 0 e
+unfolding cursorAfter digitOr0
 digit-no s c e v q h r =
     let i : 0 ≡ digitOr0 (getD s (c .at) 0) = rw (le-ltb (digitValue (getD s (c .at) 0)) 16 (rw q at h)) in
     let m : false ≡ meets s (c .at) (digit 0) = sym (ap (λ (x : ℕ). meets s (c .at) (digit x)) i ∙ meets-digit s (c .at) ∙ le-ltb _ 16 (rw q at h)) in
-    record { is = i; slots = r .0 ∙ ap (stepOf c) m; small = omega arith; at = r .1 }
+    record { is = i; slots = r .0 ∙ ap (further c) m; small = omega arith; at = r .1 }
 
 -- a known digit
 pub digit-met :
-    (s : List ℕ) (c e : Cursor) (n v : ℕ) → n < 16 → v ≡ digitValue (getD s (c .at) 0) → (e ≡ stepOf c (eqb v n)) × (e .at ≡ c .at + 1)
-    → (e ≡ after s c (digit n ∷ [])) × (e .at ≡ c .at + 1)
-unfolding after
+    (s : List ℕ) (c e : Cursor) (n v : ℕ) → n < 16 → v ≡ digitValue (getD s (c .at) 0) → (e ≡ further c (eqb v n)) × (e .at ≡ c .at + 1)
+    → (e ≡ cursorAfter s c (digit n ∷ [])) × (e .at ≡ c .at + 1)
+unfolding cursorAfter
 digit-met s c e n v h q r =
     let n16 : n ≡ n % 16 = omega arith in
-    (r .0 ∙ ap (stepOf c) (ap₂ eqb q n16 ∙ sym (meets-one s (c .at) n)), r .1)
+    (r .0 ∙ ap (further c) (ap₂ eqb q n16 ∙ sym (meets-one s (c .at) n)), r .1)
 
 -- what a number of fewer digits leaves room for
 pub digits-room : (v i w : ℕ) → v < 16 ^ i → i ≤ w → v < 16 ^ w
@@ -113,13 +113,13 @@ pub hex-room : (s : List ℕ) (c d : Cursor) (i w v : ℕ) → IsHex s c i v d �
 hex-room s c d i w v h l = digits-room v i w (h .small) l
 
 pub count-one :
-    (s : List ℕ) (c d e : Cursor) (end n : ℕ) → n < 10 → d ≡ after s c (digit n ∷ []) → e ≡ after s d (exactly end ∷ []) → e ≡ after s c (countSlots end n)
+    (s : List ℕ) (c d e : Cursor) (end n : ℕ) → n < 10 → d ≡ cursorAfter s c (digit n ∷ []) → e ≡ cursorAfter s d (exactly end ∷ []) → e ≡ cursorAfter s c (countSlots end n)
 unfolding countSlots leadOf nextOf lastOf
 count-one s c d e end n h p q = rw (lt-ltb n 10 h) (goes-on s c d e (digit n ∷ []) (exactly end ∷ []) p q)
 
 pub count-two :
-    (s : List ℕ) (c d e f : Cursor) (end n : ℕ) → 10 ≤ n → d ≡ after s c (digit (n / 10) ∷ []) → e ≡ after s d (digit (n % 10) ∷ [])
-    → f ≡ after s e (exactly end ∷ []) → f ≡ after s c (countSlots end n)
+    (s : List ℕ) (c d e f : Cursor) (end n : ℕ) → 10 ≤ n → d ≡ cursorAfter s c (digit (n / 10) ∷ []) → e ≡ cursorAfter s d (digit (n % 10) ∷ [])
+    → f ≡ cursorAfter s e (exactly end ∷ []) → f ≡ cursorAfter s c (countSlots end n)
 unfolding countSlots leadOf nextOf lastOf
 count-two s c d e f end n h p q r =
     rw (le-ltb n 10 h)
@@ -128,7 +128,7 @@ count-two s c d e f end n h p q r =
 
 pub count-is :
     (s : List ℕ) (c next : Cursor) (end lo hi x y value : ℕ) → (lo ≤ 1) × (lo ≤ hi) × (hi < 100) × (c .at + 3 < 4294967295) → x ≡ digitValue (getD s (c .at) 0)
-    → y ≡ digitValue (getD s (c .at + 1) 0) → value ≡ countOf lo hi x y → (next ≡ after s c (countSlots end value)) × (next .at ≤ c .at + 3)
+    → y ≡ digitValue (getD s (c .at + 1) 0) → value ≡ countOf lo hi x y → (next ≡ cursorAfter s c (countSlots end value)) × (next .at ≤ c .at + 3)
     → IsCount s c end lo hi value next
 count-is s c next end lo hi x y value pre p q v n =
     let w = count-within lo hi (pre .0) (pre .1) (pre .2) x y in

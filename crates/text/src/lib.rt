@@ -5,7 +5,7 @@ ghost use Prim.Native.Nat.{_+_, _≤_, _<_};
 ghost use lib.ListN.{length, getD};
 ghost use Rattle.text.specs.Slot.{exactly, digit, digitValue, word};
 ghost use Rattle.text.specs.Number.{widthOf, countSlots, countOf};
-ghost use Rattle.text.specs.After.{meets, stepOf, after};
+ghost use Rattle.text.specs.After.{meets, further, cursorAfter};
 ghost use Rattle.text.specs.Read.{IsDigit, IsHex, IsCount};
 
 // The place of the next slot, and how many bytes fit their slots before the first that did not.
@@ -71,7 +71,7 @@ fn digit_at(text: &[u8], at: usize) -> u8
 // The cursor a slot further.
 fn step(c: Cursor, fits: bool) -> Cursor
     requires { ⌜ c .at < 4294967295 ⌝ }
-    ensures { λ r. ⌜ (r ≡ stepOf c fits) × (r .at ≡ c .at + 1) ⌝ }
+    ensures { λ r. ⌜ (r ≡ further c fits) × (r .at ≡ c .at + 1) ⌝ }
 {
     let next = c.at + 1;
     if c.good < c.at {
@@ -105,7 +105,7 @@ fn is_byte(text: &[u8], at: usize, b: u8) -> bool
 // One known byte.
 pub fn expect(text: &[u8], c: Cursor, b: u8) -> Cursor
     requires { ⌜ c .at < 4294967295 ⌝ }
-    ensures { λ r. ⌜ (r ≡ after (now (text .entry)) c (exactly b ∷ [])) × (r .at ≡ c .at + 1) ⌝ }
+    ensures { λ r. ⌜ (r ≡ cursorAfter (now (text .entry)) c (exactly b ∷ [])) × (r .at ≡ c .at + 1) ⌝ }
 {
     let at = c.at;
     step(c, is_byte(text, at, b))
@@ -114,7 +114,7 @@ pub fn expect(text: &[u8], c: Cursor, b: u8) -> Cursor
 // Known bytes.
 pub fn expect_all(text: &[u8], c: Cursor, known: &[u8]) -> Cursor
     requires { ⌜ c .at + length (now known) < 4294967295 ⌝ }
-    ensures { λ r. ⌜ (r ≡ after (now (text .entry)) c (word (now (known .entry)))) × (r .at ≡ c .at + length (now (known .entry))) ⌝ }
+    ensures { λ r. ⌜ (r ≡ cursorAfter (now (text .entry)) c (word (now (known .entry)))) × (r .at ≡ c .at + length (now (known .entry))) ⌝ }
 {
     let mut d = c;
     let mut i = 0;
@@ -174,7 +174,7 @@ pub fn width_of(props: usize) -> usize
 // One known digit.
 fn expect_digit(text: &[u8], c: Cursor, n: usize) -> Cursor
     requires { ⌜ (n < 16) × (c .at < 4294967295) ⌝ }
-    ensures { λ r. ⌜ (r ≡ after (now (text .entry)) c (digit n ∷ [])) × (r .at ≡ c .at + 1) ⌝ }
+    ensures { λ r. ⌜ (r ≡ cursorAfter (now (text .entry)) c (digit n ∷ [])) × (r .at ≡ c .at + 1) ⌝ }
 {
     let at = c.at;
     step(c, digit_at(text, at) as usize == n)
@@ -198,7 +198,7 @@ fn count_of(lo: usize, hi: usize, d: u8, e: u8) -> usize
 // A known number below 100 in decimal, with no leading zero, and the byte that ends it.
 pub fn expect_count(text: &[u8], c: Cursor, end: u8, n: usize) -> Cursor
     requires { ⌜ (n < 100) × (c .at + 3 < 4294967295) ⌝ }
-    ensures { λ r. ⌜ (r ≡ after (now (text .entry)) c (countSlots end n)) × (r .at ≤ c .at + 3) ⌝ }
+    ensures { λ r. ⌜ (r ≡ cursorAfter (now (text .entry)) c (countSlots end n)) × (r .at ≤ c .at + 3) ⌝ }
 {
     if n < 10 {
         let d = expect_digit(text, c, n);

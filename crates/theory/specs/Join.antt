@@ -35,32 +35,32 @@ module _ (L : Lasso) where
       (ap (λ (k : ℕ). getD (L .loop) (k % length (L .loop)) 0) (omega arith))
 
 -- the states xs, then a lasso
-unfoldable pub after : List ℕ → Lasso → Lasso
-after xs L = record { stem = xs ++ L .stem; loop = L .loop }
+unfoldable pub walkThen : List ℕ → Lasso → Lasso
+walkThen xs L = record { stem = xs ++ L .stem; loop = L .loop }
 
 module _ (xs : List ℕ) (L : Lasso) where
   -- first the states xs
-  pub after-first : (i : ℕ) → i < length xs → stateAt (after xs L) i ≡ getD xs i 0
-  unfolding after
+  pub after-first : (i : ℕ) → i < length xs → stateAt (walkThen xs L) i ≡ getD xs i 0
+  unfolding walkThen
   after-first i h =
-      in-stem (after xs L) i (rw length-append (omega arith)) ∙ List·getD-append xs (L .stem) 0 i h
+      in-stem (walkThen xs L) i (rw length-append (omega arith)) ∙ List·getD-append xs (L .stem) 0 i h
 
   -- then those of L
-  pub after-then : (j : ℕ) → stateAt (after xs L) (length xs + j) ≡ stateAt L j
-  unfolding after
+  pub after-then : (j : ℕ) → stateAt (walkThen xs L) (length xs + j) ≡ stateAt L j
+  unfolding walkThen
   after-then j = ⊎-elim near (λ b. far (b .0) (b .1)) (below-or-beyond (length (L .stem)) j)
     where
-      near : j < length (L .stem) → stateAt (after xs L) (length xs + j) ≡ stateAt L j
-      near h = in-stem (after xs L) (length xs + j) (rw length-append (omega arith)) ∙ getD-append-add xs (L .stem) j 0 ∙ sym (in-stem L j h)
+      near : j < length (L .stem) → stateAt (walkThen xs L) (length xs + j) ≡ stateAt L j
+      near h = in-stem (walkThen xs L) (length xs + j) (rw length-append (omega arith)) ∙ getD-append-add xs (L .stem) j 0 ∙ sym (in-stem L j h)
 
-      far : (m : ℕ) → j ≡ length (L .stem) + m → stateAt (after xs L) (length xs + j) ≡ stateAt L j
-      far m e = ap (stateAt (after xs L)) (rw length-append (omega arith)) ∙ in-loop (after xs L) m ∙ sym (in-loop L m) ∙ ap (stateAt L) (sym e)
+      far : (m : ℕ) → j ≡ length (L .stem) + m → stateAt (walkThen xs L) (length xs + j) ≡ stateAt L j
+      far m e = ap (stateAt (walkThen xs L)) (rw length-append (omega arith)) ∙ in-loop (walkThen xs L) m ∙ sym (in-loop L m) ∙ ap (stateAt L) (sym e)
 
   -- it is a fair walk where L is one, the states xs are the table's, and each may be followed by the next
   pub after-fair : (T : Plant) → FairLasso T L
-      → ((i : ℕ) → i < length xs → (getD xs i 0 < T .states) × So (bit (nextOf T (getD xs i 0)) (stateAt (after xs L) (suc i))))
-      → FairLasso T (after xs L)
-  unfolding after
+      → ((i : ℕ) → i < length xs → (getD xs i 0 < T .states) × So (bit (nextOf T (getD xs i 0)) (stateAt (walkThen xs L) (suc i))))
+      → FairLasso T (walkThen xs L)
+  unfolding walkThen
   after-fair T walk first = record {
     loops = walk .loops;
     within = λ i. ⊎-elim
@@ -77,7 +77,7 @@ module _ (xs : List ℕ) (L : Lasso) where
 -- the first n values of g, then a lasso: its states
 module _ (g : ℕ → ℕ) (n : ℕ) (L : Lasso) where
   abbrev pub upto-after : Lasso
-  upto-after = after (listBelow n g) L
+  upto-after = walkThen (listBelow n g) L
 
   -- first the values
   pub upto-first : (i : ℕ) → i < n → stateAt upto-after i ≡ g i
@@ -89,7 +89,7 @@ module _ (g : ℕ → ℕ) (n : ℕ) (L : Lasso) where
 
 -- the first n states of L, then L'
 abbrev pub join : Lasso → ℕ → Lasso → Lasso
-join L n L' = after (listBelow n (stateAt L)) L'
+join L n L' = walkThen (listBelow n (stateAt L)) L'
 
 module _ (L : Lasso) (n : ℕ) (L' : Lasso) where
   -- first the states of L

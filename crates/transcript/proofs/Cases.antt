@@ -25,11 +25,11 @@ use Rattle.live.specs.Prepare.{preparedOf}
 use Rattle.live.specs.Promises.{prepare-accepted}
 use Rattle.advance.specs.declared.Monitor.{Monitor}
 use Rattle.monitor.specs.declared.Watched.{Watched}
-use Rattle.monitor.specs.Calls.{openOf}
+use Rattle.monitor.specs.Calls.{openCall}
 use Rattle.course.specs.declared.Went.{Went}
 use Rattle.course.specs.Laid.{laid-over, laid-length}
 use Rattle.course.specs.Course.{Course, verdictBytes, leftBytes, Followed, Fitting}
-use Rattle.course.specs.Right.{opened-fitting}
+use Rattle.course.specs.CourseRight.{opened-fitting}
 use Rattle.course.specs.Lamps.{Counted}
 use Rattle.transcript.specs.Place.{placedAt}
 use Rattle.transcript.specs.Lines.{byteLines, linesText, lines-are}
@@ -102,8 +102,8 @@ module _ {b now : List ℕ} {end : ℕ} (props : ℕ) (F : Monitor → Course) {
 
 -- and that a log may be followed from it
 pub fits-opened : (p : Plant) (fair label next : List ℕ) (rule : Rule) → length (rule .nodes) ≡ 32 → preparedOf p fair label next rule .outcome ≡ Accepted
-    → {live : Pairs} → live ≡ preparedOf p fair label next rule .live → {w : Watched} → w ≡ openOf p fair label next rule live → Fitting p fair label next rule live (w .monitor)
+    → {live : Pairs} → live ≡ preparedOf p fair label next rule .live → {w : Watched} → w ≡ openCall p fair label next rule live → Fitting p fair label next rule live (w .monitor)
 fits-opened p fair label next rule full ok {live} l e =
     subst (λ (x : Watched). Fitting p fair label next rule live (x .monitor)) (sym e)
-    (subst (λ (s : Pairs). Fitting p fair label next rule s (openOf p fair label next rule s .monitor)) (sym l)
+    (subst (λ (s : Pairs). Fitting p fair label next rule s (openCall p fair label next rule s .monitor)) (sym l)
     (opened-fitting p fair label next rule (prepare-accepted p fair label next rule full .0 ok)))

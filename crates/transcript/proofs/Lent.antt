@@ -21,8 +21,8 @@ filled t few-fair few-states = record {
 }
 
 -- the table beside a refusal
-pub none : Lent noTable
-none = record { fair = counts 0 (noTable .fair) zero-le; label = counts 0 (noTable .label) zero-le; next = counts 0 (noTable .next) zero-le }
+pub none-lent : Lent noTable
+none-lent = record { fair = counts 0 (noTable .fair) zero-le; label = counts 0 (noTable .label) zero-le; next = counts 0 (noTable .next) zero-le }
 
 pub lent : (r : TableRead) (s : List ℕ) → r ≡ tableRead s → Lent (r .table)
 lent r s e = subst (λ (x : TableRead). Lent (x .table)) (sym e) (by-case (reading s))
@@ -32,5 +32,5 @@ lent r s e = subst (λ (x : TableRead). Lent (x .table)) (sym e) (by-case (readi
 
     by-case : Reading s → Lent (tableRead s .table)
     by-case (accepted t a f is) = there _ is (filled t (a .few-fair) (a .few-states))
-    by-case (beyond t w b f is) = there _ is none
-    by-case (misformed i p is) = there _ is none
+    by-case (beyond t w b f is) = there _ is none-lent
+    by-case (misformed i p is) = there _ is none-lent

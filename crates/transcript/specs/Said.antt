@@ -22,7 +22,7 @@ use Rattle.log.specs.Line.{lineBytes}
 use Rattle.log.specs.Read.{logRead}
 use Rattle.live.specs.Prepare.{preparedOf}
 use Rattle.monitor.specs.declared.Watched.{Watched}
-use Rattle.monitor.specs.Calls.{openOf}
+use Rattle.monitor.specs.Calls.{openCall}
 use Rattle.course.specs.Course.{Course, courseOf}
 use Rattle.report.specs.Text.{refusedText, startText}
 use Rattle.transcript.specs.End.{endOf}
@@ -81,7 +81,7 @@ module _ (p : Plant) (fair label next : List ℕ) where
   unfoldable pub playedText : Rule → List ℕ → List ℕ
   playedText rule log =
       let prepared = preparedOf p fair label next rule in
-      let opened = openOf p fair label next rule (prepared .live) in
+      let opened = openCall p fair label next rule (prepared .live) in
       orRefused (prepared .outcome) (openedText (p .props) (opened .answer) (courseOf p fair label next rule (prepared .live) (opened .monitor) log))
 
   -- the form of a log is checked before any lamp is shown

@@ -17,7 +17,7 @@ ghost use lib.ListN.{length};
 ghost use Rattle.answers.specs.declared.Outcome.the-variants.{Accepted};
 ghost use Rattle.checks.specs.Checks.{inputOutcome};
 ghost use Rattle.live.specs.Prepare.{preparedOf};
-ghost use Rattle.monitor.specs.Calls.{openOf};
+ghost use Rattle.monitor.specs.Calls.{openCall};
 ghost use Rattle.course.specs.Course.{courseOf, Fitting};
 ghost use Rattle.report.specs.Line.{Put};
 ghost use Rattle.transcript.specs.Place.{placedAt, atLine};
@@ -57,8 +57,8 @@ fn from_start(
     out: &mut [u8],
 ) -> usize
     requires { ⌜ (preparedOf plant (now fair) (now label) (now next) rule .outcome ≡ Accepted) × (live ≡ preparedOf plant (now fair) (now label) (now next) rule .live) × (length (now log) ≤ 65520) × (229460 ≤ length (now out)) ⌝ }
-    ensures { λ r. ⌜ Put (now (out .entry)) 0 (openedText (plant .props) (openOf plant (now (fair .entry)) (now (label .entry)) (now (next .entry)) rule live .answer)
-        (courseOf plant (now (fair .entry)) (now (label .entry)) (now (next .entry)) rule live (openOf plant (now (fair .entry)) (now (label .entry)) (now (next .entry)) rule live .monitor) (now (log .entry)))) (now (out .exit)) r ⌝ }
+    ensures { λ r. ⌜ Put (now (out .entry)) 0 (openedText (plant .props) (openCall plant (now (fair .entry)) (now (label .entry)) (now (next .entry)) rule live .answer)
+        (courseOf plant (now (fair .entry)) (now (label .entry)) (now (next .entry)) rule live (openCall plant (now (fair .entry)) (now (label .entry)) (now (next .entry)) rule live .monitor) (now (log .entry)))) (now (out .exit)) r ⌝ }
 {
     let opened = monitor::open(plant, fair, label, next, rule, live);
     let answer = opened.answer;
@@ -143,7 +143,7 @@ fn placed(refusal: Refusal, offset: usize) -> Refusal
     ensures { λ r. ⌜ r ≡ placedAt refusal offset ⌝ }
 {
     let kind = refusal.kind;
-    if kind.number() == Kind::EVENT {
+    if kind.number() == Kind::ILLEGAL_EVENT {
         return Refusal::at(kind, offset);
     }
     refusal

@@ -5,4 +5,4 @@ pub mod Whole
 pub mod Rows
 pub mod Ready
 pub mod Tables
-pub mod Right
+pub mod RightTables

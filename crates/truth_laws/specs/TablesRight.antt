@@ -32,7 +32,7 @@ use Rattle.truth.specs.declared.rows.Asked.{Asked}
 use Rattle.truth.specs.declared.tables.Tables.{Tables}
 use Rattle.truth.specs.declared.rows.Asked.the-variants.{Low, High, Operand, Settled}
 use Rattle.truth.specs.Tables.{wordsIn, rowsIn, tablesOf}
-use Rattle.truth.specs.Right.{RightTables}
+use Rattle.truth.specs.RightTables.{RightTables}
 use Rattle.truth_laws.specs.Tree.{treeOf, nodesIn, nodes-tree, count-tree}
 use Rattle.truth_laws.specs.Stands.{rule-stands}
 use Rattle.truth_laws.specs.Numbers.{parts-in}

@@ -16,7 +16,7 @@ use Rattle.model.specs.Sets.{PairSet}
 use Rattle.model.specs.Checks.{pairsOk, pairs-says, eventOk, legal-says}
 use Rattle.model.specs.Rule.{opening-sets, step-sets}
 use Rattle.model.specs.Monitor as model
-use Rattle.answers.specs.declared.Kind.the-variants.{Value, Event as EventKind}
+use Rattle.answers.specs.declared.Kind.the-variants.{Value, IllegalEvent}
 use Rattle.answers.specs.declared.Answer.the-variants.{Refused}
 use Rattle.answers.specs.declared.Outcome.{Outcome}
 use Rattle.answers.specs.declared.Outcome.the-variants.{Accepted}
@@ -34,7 +34,7 @@ use Rattle.checks.specs.Input.{Input, input-accepted}
 use Rattle.advance.specs.declared.Monitor.{Monitor}
 use Rattle.advance.specs.Held.{modelOf, monitorOf, eventOf}
 use Rattle.monitor.specs.declared.Watched.{Watched}
-use Rattle.monitor.specs.Calls.{lampOf, none, watched, openOf, stepChecked, stepOf}
+use Rattle.monitor.specs.Calls.{lampOf, noMonitor, watched, openCall, stepChecked, stepCall}
 use Rattle.monitor.proofs.Given.{legal-is}
 use Rattle.monitor.specs.Promises.{open-accepted}
 use Rattle.live.specs.Prepare.{preparedAs, preparedOf}
@@ -46,9 +46,9 @@ shows m = record { answer = lampOf m; monitor = monitorOf m }
 -- by whether the event is legal: the new monitor with its lamp, or 10 and the old one
 abbrev pub takes : Bool → Monitor → model.Monitor → Watched
 takes true old new = shows new
-takes false old new = record { answer = Refused (refusedAt EventKind 0); monitor = old }
+takes false old new = record { answer = Refused (refusedAt IllegalEvent 0); monitor = old }
 
-takes-is : (b : Bool) (old : Monitor) (new : model.Monitor) → watched (unless b EventKind) old new ≡ takes b old new
+takes-is : (b : Bool) (old : Monitor) (new : model.Monitor) → watched (unless b IllegalEvent) old new ≡ takes b old new
 takes-is true old new = refl
 takes-is false old new = refl
 
@@ -74,7 +74,7 @@ module _ (p : Plant) (fair label next : List ℕ) (rule : Rule) where
 
   -- what `step` gives, event after event, from what `open` gives
   unfoldable pub after : List Event → Watched
-  after es = foldl (λ w e. stepOf p fair label next rule live (w .monitor) e) (openOf p fair label next rule live) es
+  after es = foldl (λ w e. stepCall p fair label next rule live (w .monitor) e) (openCall p fair label next rule live) es
 
   -- each event is accepted
   abbrev pub AllLegal : List Event → Type 0
@@ -104,18 +104,18 @@ module _ (p : Plant) (fair label next : List ℕ) (rule : Rule) where
           )
 
       -- THE LAW OF EVERY LOOP: from a monitor of the table and the rule, 1, 2 and 9 pass, whatever the event
-      pub checks-pass : (m : Monitor) → Held m → (e : Event) → stepOf p fair label next rule known m e ≡ takenOf known m e
-      unfolding stepOf
+      pub checks-pass : (m : Monitor) → Held m → (e : Event) → stepCall p fair label next rule known m e ≡ takenOf known m e
+      unfolding stepCall
       checks-pass m held e = ap (λ (o : Outcome). watched o m new) checked ∙ takes-is (legalOf e (p .props)) m new
         where
           new : model.Monitor
           new = model.stepOf T f (known .words) (modelOf m) (eventOf e)
 
-          checked : stepChecked p fair label next rule known m e ≡ unless (legalOf e (p .props)) EventKind
+          checked : stepChecked p fair label next rule known m e ≡ unless (legalOf e (p .props)) IllegalEvent
           checked = rw (input-accepted p fair label next rule full .1 given, in-order m held, legal-is p fair label next rule given e) refl
 
       -- and the next monitor is of them again
-      pub stays-held : (m : Monitor) → Held m → (e : Event) → Held (stepOf p fair label next rule known m e .monitor)
+      pub stays-held : (m : Monitor) → Held m → (e : Event) → Held (stepCall p fair label next rule known m e .monitor)
       stays-held m held e = rw (checks-pass m held e) (go (legalOf e (p .props)))
         where
           go : (b : Bool) → Held (takes b m (model.stepOf T f (known .words) (modelOf m) (eventOf e)) .monitor)
@@ -123,11 +123,11 @@ module _ (p : Plant) (fair label next : List ℕ) (rule : Rule) where
           go false = held
 
       -- as is the one opened
-      pub opens : openOf p fair label next rule known ≡ shows (model.opening T f (known .words))
-      unfolding openOf
-      opens = ap (λ (o : Outcome). watched o none (model.opening T f (known .words))) (open-accepted p fair label next rule full known .1 (given, fits))
+      pub opens : openCall p fair label next rule known ≡ shows (model.opening T f (known .words))
+      unfolding openCall
+      opens = ap (λ (o : Outcome). watched o noMonitor (model.opening T f (known .words))) (open-accepted p fair label next rule full known .1 (given, fits))
 
-      pub open-held : Held (openOf p fair label next rule known .monitor)
+      pub open-held : Held (openCall p fair label next rule known .monitor)
       open-held = rw opens (opening-sets T f (given .table) (given .few) (known .words) fits)
 
     -- ---- for the prepared one
@@ -156,32 +156,32 @@ module _ (p : Plant) (fair label next : List ℕ) (rule : Rule) where
     first-sets : Sets first
     first-sets = opening-sets T f (given .table) (given .few) (liveSet T f) (live-set T f (given .table) (given .few))
 
-    opened : openOf p fair label next rule live ≡ shows first
+    opened : openCall p fair label next rule live ≡ shows first
     opened = opens live live-fits ∙ ap (λ (l : List ℕ). shows (model.opening T f l)) live-words
 
     -- a call behind one whose monitor is the model's
     steps : (w : Watched) (m : model.Monitor) → Sets m → w .monitor ≡ monitorOf m → (e : Event) {b : Bool} → legalOf e (p .props) ≡ b
-        → stepOf p fair label next rule live (w .monitor) e ≡ takes b (monitorOf m) (next-of m e)
+        → stepCall p fair label next rule live (w .monitor) e ≡ takes b (monitorOf m) (next-of m e)
     steps w m sets is e {b} legal =
-        ap (λ (x : Monitor). stepOf p fair label next rule live x e) is ∙ checks-pass live live-fits (monitorOf m) sets e
+        ap (λ (x : Monitor). stepCall p fair label next rule live x e) is ∙ checks-pass live live-fits (monitorOf m) sets e
         ∙ ap (λ (c : Bool). takes c (monitorOf m) (model.stepOf T f (live .words) m (eventOf e))) legal
         ∙ ap (λ (l : List ℕ). takes b (monitorOf m) (model.stepOf T f l m (eventOf e))) live-words
 
     -- WHATEVER EVENTS COME, the monitor is that of the model after those that were accepted
     pub after-any : (es : List Event) → after es .monitor ≡ monitorOf (model.runOf T f (liveSet T f) (map eventOf (legalOnes es)))
     unfolding after model.runOf legalOnes
-    after-any es = go es (openOf p fair label next rule live) first first-sets (ap (λ (w : Watched). w .monitor) opened)
+    after-any es = go es (openCall p fair label next rule live) first first-sets (ap (λ (w : Watched). w .monitor) opened)
       where
         go : (es : List Event) (w : Watched) (m : model.Monitor) → Sets m → w .monitor ≡ monitorOf m
-            → foldl (λ w e. stepOf p fair label next rule live (w .monitor) e) w es .monitor ≡ monitorOf (foldl (model.stepOf T f (liveSet T f)) m (map eventOf (legalOnes es)))
+            → foldl (λ w e. stepCall p fair label next rule live (w .monitor) e) w es .monitor ≡ monitorOf (foldl (model.stepOf T f (liveSet T f)) m (map eventOf (legalOnes es)))
         go [] w m sets is = is
         go (e ∷ es) w m sets is = by (λ (n : model.Monitor). go es now n) (legalOf e (p .props)) refl
           where
             now : Watched
-            now = stepOf p fair label next rule live (w .monitor) e
+            now = stepCall p fair label next rule live (w .monitor) e
 
             End : List Event → model.Monitor → Type 0
-            End ls n = foldl (λ w e. stepOf p fair label next rule live (w .monitor) e) now es .monitor ≡ monitorOf (foldl (model.stepOf T f (liveSet T f)) n (map eventOf ls))
+            End ls n = foldl (λ w e. stepCall p fair label next rule live (w .monitor) e) now es .monitor ≡ monitorOf (foldl (model.stepOf T f (liveSet T f)) n (map eventOf ls))
 
             by : ((n : model.Monitor) → Sets n → now .monitor ≡ monitorOf n → End (legalOnes es) n) → (b : Bool) → legalOf e (p .props) ≡ b → End (cond b (e ∷ legalOnes es) (legalOnes es)) m
             by rest true legal = rest (next-of m e) (sets-on m sets e) (ap (λ (w : Watched). w .monitor) (steps w m sets is e legal))
@@ -190,11 +190,11 @@ module _ (p : Plant) (fair label next : List ℕ) (rule : Rule) where
     -- and after accepted ones the calls show its lamp
     pub after-model : (es : List Event) → AllLegal es → after es ≡ shows (model.runOf T f (liveSet T f) (map eventOf es))
     unfolding after model.runOf
-    after-model es legal = go es legal (openOf p fair label next rule live) first first-sets opened
+    after-model es legal = go es legal (openCall p fair label next rule live) first first-sets opened
       where
         go : (es : List Event) → AllLegal es → (w : Watched) (m : model.Monitor) → Sets m → w ≡ shows m
-            → foldl (λ w e. stepOf p fair label next rule live (w .monitor) e) w es ≡ shows (foldl (model.stepOf T f (liveSet T f)) m (map eventOf es))
+            → foldl (λ w e. stepCall p fair label next rule live (w .monitor) e) w es ≡ shows (foldl (model.stepOf T f (liveSet T f)) m (map eventOf es))
         go [] legal w m sets is = is
         go (e ∷ es) (l, ls) w m sets is =
-            go es ls (stepOf p fair label next rule live (w .monitor) e) (next-of m e) (sets-on m sets e)
+            go es ls (stepCall p fair label next rule live (w .monitor) e) (next-of m e) (sets-on m sets e)
             (steps w m sets (ap (λ (w : Watched). w .monitor) is) e (legal-is p fair label next rule given e ∙ legal-says T (seenOf e) .1 l))

@@ -36,17 +36,17 @@ use Rattle.ways.specs.Ways.{waysOf}
 use Rattle.checks.specs.Checks.{inputOutcome}
 use Rattle.checks.specs.Input.{Input}
 use Rattle.checks.proofs.Given.{right}
-use Rattle.live.specs.Right.{live-is}
+use Rattle.live.specs.LiveRight.{live-is}
 use Rattle.live.proofs.Given.{live-set-is}
 use Rattle.advance.specs.declared.Monitor.{Monitor}
 use Rattle.advance.specs.Held.{modelOf}
-use Rattle.monitor.specs.Calls.{lit, checkedOf, lookOf}
+use Rattle.monitor.specs.Calls.{lit, checkedOf, lookCall}
 use Rattle.walk.specs.declared.Lengths.{Lengths}
 use Rattle.walk.specs.Legs.{Walked}
 use Rattle.witness.specs.declared.Witnessed.{Witnessed}
 use Rattle.witness.specs.declared.Witnessed.the-variants as Answers
 use Rattle.witness.specs.Run.{movesIn, debtsIn}
-use Rattle.witness.specs.Right.{run-is-fair, run-begins, run-shows}
+use Rattle.witness.specs.WalkRight.{run-is-fair, run-begins, run-shows}
 use Rattle.witness.specs.Calls.{AnsweredAs, Sought, table, formula, askedOf, witnessOutcome, Answered}
 
 -- what a look tells of its checks
@@ -69,9 +69,9 @@ module _ (p : Plant) (fair label next : List ℕ) (rule : Rule) (m : Monitor) wh
 
   -- ---- the checks 1, 2, 9 and 11
 
-  module _ {a : Answer} (e : a ≡ lookOf p fair label next rule m) (room : ℕ) where
+  module _ {a : Answer} (e : a ≡ lookCall p fair label next rule m) (room : ℕ) where
     look-told : looked ≡ told a
-    unfolding lookOf
+    unfolding lookCall
     look-told = sym (ap told e ∙ told-lit looked (modelOf m))
 
     pub not-looked : {r : Refusal} → a ≡ Looks.Refused r → Refused r ≡ askedOf p fair label next rule m room

@@ -1,4 +1,4 @@
 pub mod Run
-pub mod Right
+pub mod WalkRight
 pub mod Calls
 pub mod OnPaper

@@ -3,7 +3,7 @@ use mathlib.Core.Path.{_∙_}
 use borrow.Author.Needs.{needs}
 use Rattle.syntax.proofs.Held.{full}
 use Rattle.ways.specs.Ways.{few-ways}
-use Rattle.course.specs.Right.{fitting-ready, followed}
+use Rattle.course.specs.CourseRight.{fitting-ready, followed}
 use Rattle.course.proofs.follow.Statement.{statement}
 use Rattle.course.proofs.follow.Tie as tie
 

@@ -64,7 +64,7 @@ use Rattle.advance.proofs.Monitor.Laws as Mo′
 use Rattle.monitor.specs.declared.Watched.{Watched}
 use Rattle.monitor.proofs.Watched as Wa
 use Rattle.monitor.proofs.Watched.Laws as Wa′
-use Rattle.monitor.specs.Calls.{stepOf}
+use Rattle.monitor.specs.Calls.{stepCall}
 use Rattle.monitor.proofs.step as step
 use Rattle.monitor.proofs.step.Symbol as step-def
 use Rattle.monitor.proofs.step.Symbol.{name as #monitor·step}
@@ -166,7 +166,7 @@ module _ {M : Type 1} (𝓤 : URA M) (H : Heap 𝓤) (A : Atoms 𝓤) (W : Given
 
   -- what `step` should return
   abbrev right : Watched
-  right = stepOf plant (fair .now) (label .now) (next .now) rule live m event
+  right = stepCall plant (fair .now) (label .now) (next .now) rule live m event
 
   -- the tokens of the three slices, which `step` takes, and those with the monitor's
   abbrev Tokens : Item 𝓤

@@ -1,7 +1,7 @@
 -- `live_pairs`: by what its calls ensure, one after the other.
 use borrow.Author.Needs.{needs}
 use Rattle.ways.specs.Ways.{few-part-ways}
-use Rattle.live.specs.Right.{live-is}
+use Rattle.live.specs.LiveRight.{live-is}
 use Rattle.live.proofs.live_pairs.Statement.{statement}
 use Rattle.live.proofs.live_pairs.Tie as tie
 

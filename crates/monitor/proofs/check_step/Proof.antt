@@ -1,7 +1,7 @@
 -- `check_step`: table, rule, the live set and both sides at once, and then the event. Assumes nothing.
 use mathlib.Core.Path.{ap, _∙_}
 use borrow.Author.Needs.{needs}
-use Rattle.answers.specs.declared.Kind.the-variants.{Event}
+use Rattle.answers.specs.declared.Kind.the-variants.{IllegalEvent}
 use Rattle.answers.specs.Chain.{first-refuses, first-passes, test-passes, test-fails}
 use Rattle.monitor.specs.Checked.{heldOf, caughtOf}
 use Rattle.monitor.proofs.check_step.Statement.{statement}
@@ -11,7 +11,7 @@ returns : tie.Need-returns
 unfolding caughtOf
 returns c =
     let told = c .before .before .before .before in
-    test-passes Event (c .if1 .taken) (c .before .is-legal .ensures)
+    test-passes IllegalEvent (c .if1 .taken) (c .before .is-legal .ensures)
     ∙ first-passes _ (told .check-held .ensures ∙ ap (heldOf _ _ _ _ _ _) (told .before .before .before .before .before .join .ensures)) (c .before .before .enum-told .given .1)
 
 returns-2 : tie.Need-returns-2
@@ -24,7 +24,7 @@ returns-3 : tie.Need-returns-3
 unfolding caughtOf
 returns-3 c =
     let told = c .before .before .before .before .before in
-    test-fails Event (c .before .if1 .left) (c .before .before .is-legal .ensures) (c .at .ensures)
+    test-fails IllegalEvent (c .before .if1 .left) (c .before .before .is-legal .ensures) (c .at .ensures)
     ∙ first-passes _ (told .check-held .ensures ∙ ap (heldOf _ _ _ _ _ _) (told .before .before .before .before .before .join .ensures)) (c .before .before .before .enum-told .given .1)
 
 pub check-step-spec : {M : Type 1} → statement M

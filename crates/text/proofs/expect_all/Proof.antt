@@ -1,7 +1,7 @@
 -- `text::expect_all`. The loop has gone over the bytes passed.
 use lib.Seq.{take-all}
 use borrow.Author.Needs.{needs}
-use Rattle.text.specs.After.{after, word-turn}
+use Rattle.text.specs.After.{cursorAfter, word-turn}
 use Rattle.text.specs.Slot.{word}
 use lib.ListN.{length, take}
 use native.Mathlib.Omega.{arith}
@@ -11,13 +11,13 @@ use Rattle.text.proofs.expect_all.Statement.{statement}
 use Rattle.text.proofs.expect_all.Tie as tie
 
 abbrev Inv-loop : tie.InvT-loop
-Inv-loop text known d₀ i₀ d i = (i ≤ length known) × (d ≡ after text d₀ (word (take i known))) × (d .at ≡ d₀ .at + i)
+Inv-loop text known d₀ i₀ d i = (i ≤ length known) × (d ≡ cursorAfter text d₀ (word (take i known))) × (d .at ≡ d₀ .at + i)
 
 abbrev μ-loop : tie.MeasureT-loop
 μ-loop text known d₀ i₀ d i = length known - i
 
 loop-holds : tie.Need-loop-holds Inv-loop μ-loop
-unfolding after
+unfolding cursorAfter
 loop-holds c = (zero-le, refl, omega arith)
 
 loop-again : tie.Need-loop-again Inv-loop μ-loop

@@ -1,7 +1,7 @@
 -- `text::hex`. The loop has read i digits.
 use native.Mathlib.Nat.{le-antisymm}
 use borrow.Author.Needs.{needs}
-use Rattle.text.specs.After.{after}
+use Rattle.text.specs.After.{cursorAfter}
 use Rattle.text.specs.Number.{hexGuess, hexSlots}
 use Prim.Native.Nat.{_≤_, _-_, zero-le}
 use mathlib.Core.Path.{refl}
@@ -17,7 +17,7 @@ abbrev μ-loop : tie.MeasureT-loop
 μ-loop text width d₀ value₀ i₀ d value i = width - i
 
 loop-holds : tie.Need-loop-holds Inv-loop μ-loop
-unfolding hexGuess hexSlots after
+unfolding hexGuess hexSlots cursorAfter
 loop-holds c = (zero-le, record { is = refl; slots = refl; small = omega arith; at = omega arith })
 
 mul-value : tie.Need-mul-value Inv-loop μ-loop

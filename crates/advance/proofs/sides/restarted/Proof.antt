@@ -1,6 +1,6 @@
 -- `restarted`: the image of both sides, split. Assumes nothing.
 use borrow.Author.Needs.{needs}
-use Rattle.advance.specs.Right.{restarted-whole}
+use Rattle.advance.specs.SidesRight.{restarted-whole}
 use Rattle.advance.proofs.sides.restarted.Statement.{statement}
 use Rattle.advance.proofs.sides.restarted.Tie as tie
 

@@ -1,6 +1,6 @@
 -- `stepped`: by whether an event came, and whether it is a restart. Assumes nothing.
 use borrow.Author.Needs.{needs}
-use Rattle.advance.specs.Right.{advanced-new, advanced-next, advanced-first}
+use Rattle.advance.specs.SidesRight.{advanced-new, advanced-next, advanced-first}
 use Rattle.monitor.proofs.single.stepped.Statement.{statement}
 use Rattle.monitor.proofs.single.stepped.Tie as tie
 

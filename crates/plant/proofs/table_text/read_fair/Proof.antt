@@ -5,7 +5,7 @@ use Rattle.plant.specs.Text.{field, fairName}
 use Rattle.text.specs.Many.{slotsBelow}
 use Rattle.words.specs.Below.{filled}
 use Rattle.words.specs.Lists.{filled-none, filled-turn}
-use Rattle.text.specs.After.{after}
+use Rattle.text.specs.After.{cursorAfter}
 use lib.ListN.{drop}
 use native.Mathlib.Nat.{le-antisymm}
 use native.Mathlib.Omega.{arith}
@@ -15,13 +15,13 @@ use Rattle.plant.proofs.table_text.read_fair.Statement.{statement}
 use Rattle.plant.proofs.table_text.read_fair.Tie as tie
 
 abbrev Inv-loop : tie.InvT-loop
-Inv-loop text n words₀ d₀ k₀ t8 words d k = (k ≤ n) × (d ≡ after text d₀ (slotsBelow (field fairName 16) k (fairAt (drop (d₀ .at) text)))) × (words ≡ filled 4 k (fairAt (drop (d₀ .at) text))) × (d .at ≤ d₀ .at + 28 * k)
+Inv-loop text n words₀ d₀ k₀ t8 words d k = (k ≤ n) × (d ≡ cursorAfter text d₀ (slotsBelow (field fairName 16) k (fairAt (drop (d₀ .at) text)))) × (words ≡ filled 4 k (fairAt (drop (d₀ .at) text))) × (d .at ≤ d₀ .at + 28 * k)
 
 abbrev μ-loop : tie.MeasureT-loop
 μ-loop text n words₀ d₀ k₀ t8 words d k = n - k
 
 loop-holds : tie.Need-loop-holds Inv-loop μ-loop
-unfolding slotsBelow after
+unfolding slotsBelow cursorAfter
 loop-holds c = (zero-le, refl, filled-none 4 _, omega arith)
 
 loop-again : tie.Need-loop-again Inv-loop μ-loop

@@ -5,7 +5,7 @@ use Rattle.plant.specs.Text.{row}
 use Rattle.text.specs.Many.{slotsBelow}
 use Rattle.words.specs.Below.{filled}
 use Rattle.words.specs.Lists.{filled-none, filled-turn}
-use Rattle.text.specs.After.{after}
+use Rattle.text.specs.After.{cursorAfter}
 use lib.ListN.{drop}
 use native.Mathlib.Nat.{le-antisymm}
 use native.Mathlib.Omega.{arith}
@@ -15,13 +15,13 @@ use Rattle.plant.proofs.table_text.read_rows.Statement.{statement}
 use Rattle.plant.proofs.table_text.read_rows.Tie as tie
 
 abbrev Inv-loop : tie.InvT-loop
-Inv-loop text width n label₀ next₀ d₀ k₀ t10 t11 label next d k = (k ≤ n) × (d ≡ after text d₀ (slotsBelow (row width) k (rowAt width (drop (d₀ .at) text)))) × (label ≡ filled 64 k (λ k. rowAt width (drop (d₀ .at) text) k .0)) × (next ≡ filled 64 k (λ k. rowAt width (drop (d₀ .at) text) k .1)) × (d .at ≤ d₀ .at + 56 * k)
+Inv-loop text width n label₀ next₀ d₀ k₀ t10 t11 label next d k = (k ≤ n) × (d ≡ cursorAfter text d₀ (slotsBelow (row width) k (rowAt width (drop (d₀ .at) text)))) × (label ≡ filled 64 k (λ k. rowAt width (drop (d₀ .at) text) k .0)) × (next ≡ filled 64 k (λ k. rowAt width (drop (d₀ .at) text) k .1)) × (d .at ≤ d₀ .at + 56 * k)
 
 abbrev μ-loop : tie.MeasureT-loop
 μ-loop text width n label₀ next₀ d₀ k₀ t10 t11 label next d k = n - k
 
 loop-holds : tie.Need-loop-holds Inv-loop μ-loop
-unfolding slotsBelow after
+unfolding slotsBelow cursorAfter
 loop-holds c = (zero-le, refl, filled-none 64 _, filled-none 64 _, omega arith)
 
 loop-again : tie.Need-loop-again Inv-loop μ-loop

@@ -3,7 +3,7 @@
 use borrow.Author.Needs.{needs}
 use native.Mathlib.Omega.{arith}
 use Rattle.io.proofs.Counting.{counts}
-use Rattle.report.proofs.Puts.{puts, put-length, put-counts, behind, both}
+use Rattle.report.proofs.Puts.{puts, put-length, put-counts, behind, both-parts}
 use Rattle.report.proofs.run.run_line.Statement.{statement}
 use Rattle.report.proofs.run.run_line.Tie as tie
 
@@ -21,7 +21,7 @@ run-line-spec =
     (λ c κs.
     let first = c .before .before .before .before .before in
     let start = first .before .before .before .before in
-    omega (arith, put-length (first .put-kind .ensures .0), first .put-kind .ensures .1, both (start .args .stem) (start .args .states .now) (start .pre .0), start .pre .1))
+    omega (arith, put-length (first .put-kind .ensures .0), first .put-kind .ensures .1, both-parts (start .args .stem) (start .args .states .now) (start .pre .0), start .pre .1))
     -- slice-aggregate-put-part-3
     (λ c. search needs)
     -- sub-put-part
@@ -40,7 +40,7 @@ run-line-spec =
       put-length (puts (first .put-kind .ensures .0) (second .put-part .ensures .0)),
       second .put-part .ensures .1,
       first .put-kind .ensures .1,
-      both (start .args .stem) (start .args .states .now) (start .pre .0),
+      both-parts (start .args .stem) (start .args .states .now) (start .pre .0),
       start .pre .1,
     ))
     -- slice-aggregate-put-text
@@ -58,7 +58,7 @@ run-line-spec =
       third .put-part2 .ensures .1,
       second .put-part .ensures .1,
       first .put-kind .ensures .1,
-      both (start .args .stem) (start .args .states .now) (start .pre .0),
+      both-parts (start .args .stem) (start .args .states .now) (start .pre .0),
       start .pre .1,
     ))
     -- same-length

@@ -2,7 +2,7 @@
 use borrow.Author.Needs.{needs}
 use mathlib.Core.Path.{sym, ap, _∙_}
 use Rattle.live.specs.declared.Prepared.{Prepared}
-use Rattle.monitor.specs.Calls.{openOf}
+use Rattle.monitor.specs.Calls.{openCall}
 use Rattle.course.specs.Course.{courseOf}
 use Rattle.transcript.specs.Said.{openedText, playedText}
 use Rattle.transcript.proofs.Cases.{refused-said, accepted-said}
@@ -21,8 +21,8 @@ returns c =
     let told = c .before .before .before .before .before .before .before .before in
     let a = told .before .before .before .before .before .before .args in
     refused-said (λ (r : Prepared). r .outcome)
-    (λ (r : Prepared). openedText (a .plant .props) (openOf (a .plant) (a .fair .now) (a .label .now) (a .next .now) (a .rule) (r .live) .answer)
-    (courseOf (a .plant) (a .fair .now) (a .label .now) (a .next .now) (a .rule) (r .live) (openOf (a .plant) (a .fair .now) (a .label .now) (a .next .now) (a .rule) (r .live) .monitor) (a .log .now)))
+    (λ (r : Prepared). openedText (a .plant .props) (openCall (a .plant) (a .fair .now) (a .label .now) (a .next .now) (a .rule) (r .live) .answer)
+    (courseOf (a .plant) (a .fair .now) (a .label .now) (a .next .now) (a .rule) (r .live) (openCall (a .plant) (a .fair .now) (a .label .now) (a .next .now) (a .rule) (r .live) .monitor) (a .log .now)))
     (told .prepare .ensures) (c .before .before .before .before .before .outcome .given .1) (c .before .before .put-refused .ensures)
 
 returns-2 : tie.Need-returns-2
@@ -31,8 +31,8 @@ returns-2 c =
     let told = c .before .before .before .before .before .before .before in
     let a = told .before .before .before .before .before .before .args in
     accepted-said (λ (r : Prepared). r .outcome)
-    (λ (r : Prepared). openedText (a .plant .props) (openOf (a .plant) (a .fair .now) (a .label .now) (a .next .now) (a .rule) (r .live) .answer)
-    (courseOf (a .plant) (a .fair .now) (a .label .now) (a .next .now) (a .rule) (r .live) (openOf (a .plant) (a .fair .now) (a .label .now) (a .next .now) (a .rule) (r .live) .monitor) (a .log .now)))
+    (λ (r : Prepared). openedText (a .plant .props) (openCall (a .plant) (a .fair .now) (a .label .now) (a .next .now) (a .rule) (r .live) .answer)
+    (courseOf (a .plant) (a .fair .now) (a .label .now) (a .next .now) (a .rule) (r .live) (openCall (a .plant) (a .fair .now) (a .label .now) (a .next .now) (a .rule) (r .live) .monitor) (a .log .now)))
     (told .prepare .ensures) (c .before .before .before .before .enum-told .given .1) (c .before .before .from-start .ensures)
 
 pub play-spec : {M : Type 1} → statement M

@@ -10,9 +10,9 @@ use Rattle.model.specs.Sets.{nodesOf}
 use Rattle.model.specs.LiveSet.{liveSet}
 use Rattle.model.specs.Witness.{hasLive}
 use Rattle.leads.specs.Halves.{leavingOf, enteringOf}
-use Rattle.leads.specs.Right.{from-halves, to-halves}
+use Rattle.leads.specs.HalvesRight.{from-halves, to-halves}
 use Rattle.truth.specs.declared.tables.Tables.{Tables}
-use Rattle.truth.specs.Right.{RightTables}
+use Rattle.truth.specs.RightTables.{RightTables}
 use Rattle.ways.specs.Ways.{waysFrom}
 use Rattle.walk.specs.Legs.{Walked}
 use Rattle.walk.specs.Shows.{RightHalves, Shows, live-fair, live-asked, walked-shows}

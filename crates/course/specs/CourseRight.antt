@@ -27,9 +27,9 @@ use Rattle.ways.specs.Ways.{waysOf}
 use Rattle.advance.specs.declared.Monitor.{Monitor}
 use Rattle.advance.specs.Held.{modelOf, monitorOf, eventOf}
 use Rattle.advance.specs.Sides.{advancedIn}
-use Rattle.advance.specs.Right.{advanced-right}
+use Rattle.advance.specs.SidesRight.{advanced-right}
 use Rattle.monitor.specs.declared.Watched.{Watched}
-use Rattle.monitor.specs.Calls.{openOf, stepOf}
+use Rattle.monitor.specs.Calls.{openCall, stepCall}
 use Rattle.watching.specs.Watching.{T, f, Held, live, live-fits, checks-pass, stays-held, open-held, full}
 use Rattle.watching.specs.Watching as watching
 use Rattle.course.specs.declared.Went.{Went}
@@ -55,7 +55,7 @@ module _ (step : Monitor → Event → Watched) (m : Monitor) (event : ℕ → E
 module _ (p : Plant) (fair label next : List ℕ) (rule : Rule) (given : Input p fair label next rule) (live : Pairs)
     (fits : PairSet (T p fair label next rule) (f p fair label next rule) (live .words)) where
   abbrev calls : Monitor → Event → Watched
-  calls = stepOf p fair label next rule live
+  calls = stepCall p fair label next rule live
 
   -- a turn of the loop is the public step
   pub turn-is : (m : Monitor) → Held p fair label next rule m → (e : Event) → turn p label next (waysOf label rule) live m e ≡ calls m e
@@ -113,7 +113,7 @@ module _ (p : Plant) (fair label next : List ℕ) (rule : Rule) (full : length (
 
 -- what `prepare` and `open` give is fitting
 pub opened-fitting : (p : Plant) (fair label next : List ℕ) (rule : Rule) → Input p fair label next rule
-    → Fitting p fair label next rule (live p fair label next rule) (openOf p fair label next rule (live p fair label next rule) .monitor)
+    → Fitting p fair label next rule (live p fair label next rule) (openCall p fair label next rule (live p fair label next rule) .monitor)
 opened-fitting p fair label next rule given = record {
   input = input-accepted p fair label next rule (full p fair label next rule given) .1 given;
   lives = live-fits p fair label next rule given;

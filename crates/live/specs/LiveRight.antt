@@ -7,13 +7,13 @@ use Rattle.meaning.specs.Run.{Plant}
 use Rattle.meaning.specs.Limits.{AcceptedTable, Small}
 use Rattle.model.specs.LiveSet.{allPairs, liveSet}
 use Rattle.leads.specs.Halves.{leavingOf, enteringOf}
-use Rattle.leads.specs.Right.{before-halves}
+use Rattle.leads.specs.HalvesRight.{before-halves}
 use Rattle.sweeps.specs.Rounds.{everyOf, lastingOf}
-use Rattle.sweeps.specs.Right.{Moves}
+use Rattle.sweeps.specs.SweepsRight.{Moves}
 use Rattle.sweeps.specs.Lives.{live-right}
 use Rattle.syntax.specs.declared.Rule.{Rule}
 use Rattle.truth.specs.declared.tables.Tables.{Tables}
-use Rattle.truth.specs.Right.{RightTables}
+use Rattle.truth.specs.RightTables.{RightTables}
 use Rattle.ways.specs.declared.Ways.{Ways}
 use Rattle.ways.specs.Ways.{waysFrom, waysOf}
 use Rattle.live.specs.Prepare.{liveBy, liveOf}

@@ -31,12 +31,12 @@ use Rattle.model.specs.Rule.{both-set}
 use Rattle.pairs.specs.Sets.{inside, joinOf, inside-words}
 use Rattle.model.specs.Code.{moved-image}
 use Rattle.leads.specs.Halves.{fromIn, toIn}
-use Rattle.leads.specs.Right.{image-halves}
+use Rattle.leads.specs.HalvesRight.{image-halves}
 use Rattle.syntax.specs.declared.Rule.{Rule}
 use Rattle.log.specs.declared.Event.{Event}
 use Rattle.truth.specs.declared.tables.Tables.{Tables}
 use Rattle.truth.specs.Tables.{tablesOf}
-use Rattle.truth.specs.Right.{RightTables}
+use Rattle.truth.specs.RightTables.{RightTables}
 use Rattle.ways.specs.declared.Ways.{Ways}
 use Rattle.ways.specs.Ways.{waysFrom, waysOf}
 use Rattle.advance.specs.declared.Monitor.{Monitor}
