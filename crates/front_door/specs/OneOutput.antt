@@ -36,10 +36,10 @@ use Rattle.log.specs.Promises.{log-out}
 use Rattle.report.specs.Text.{startText}
 use Rattle.transcript.specs.Lines.{dark, linesText}
 use Rattle.transcript.specs.Said.{File, bytes, bytesOf}
 use Rattle.promises.specs.Demand.{Lit}
-use Rattle.promises.specs.RuleEnd.{stripped, end-said, end-dropped}
-use Rattle.promises.specs.FrontDoor as door
-use Rattle.promises.specs.FrontDoor.{SaysTable, SaysRule, SaysLog, Ends, at-end, at-event, Shows}
+use Rattle.front_door.specs.RuleEnd.{stripped, end-said, end-dropped}
+use Rattle.front_door.specs.FrontDoor as door
+use Rattle.front_door.specs.FrontDoor.{SaysTable, SaysRule, SaysLog, Ends, at-end, at-event, Shows}
 
 -- ---- what files say
 

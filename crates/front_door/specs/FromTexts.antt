@@ -55,9 +55,9 @@ use Rattle.checks.specs.Input.{Input, given, formula-is}
 use Rattle.report.specs.Text.{lf}
 use Rattle.transcript.specs.Said as said
 use Rattle.transcript.specs.Said.{File, bytes, missing, outputOf}
-use Rattle.promises.specs.FrontDoor.{SaysTable, SaysRule, SaysLog, StopsAt, Shows, OfLog, lamps, no-log, log-refused, OfRule, rule-said, no-rule, rule-refused, Output, table-said, no-plant, table-refused, bit-beyond, FrontDoor, EveryOutput}
-use Rattle.promises.specs.Lamps.{Taken, played}
-use Rattle.promises.specs.RuleEnd.{stripped, end-said, end-dropped, end-or}
+use Rattle.front_door.specs.FrontDoor.{SaysTable, SaysRule, SaysLog, StopsAt, Shows, OfLog, lamps, no-log, log-refused, OfRule, rule-said, no-rule, rule-refused, Output, table-said, no-plant, table-refused, bit-beyond, FrontDoor, EveryOutput}
+use Rattle.front_door.specs.Lamps.{Taken, played}
+use Rattle.front_door.specs.RuleEnd.{stripped, end-said, end-dropped, end-or}
 
 -- ---- the readers
 

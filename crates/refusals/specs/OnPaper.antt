@@ -9,7 +9,7 @@ use Rattle.witness.specs.declared.Witnessed.{Witnessed}
 use Rattle.witness.specs.declared.Witnessed.the-variants.{Run}
 use Rattle.witness.specs.declared.Witnessed.the-variants as Witnesses
 use Rattle.witness.specs.OnPaper.{witnessed}
-use Rattle.promises.specs.Judged.{accepted-taken}
+use Rattle.refusals.specs.Judged.{accepted-taken}
 
 pub one-printed : (a b : Printed) → printed a ≡ printed b → a ≡ b
 one-printed (Text i) (Text j) same = let bytes : i .bytes ≡ j .bytes = cc in λ k. Text (record { bytes = bytes k })

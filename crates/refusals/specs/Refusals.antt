@@ -56,7 +56,7 @@ use Rattle.monitor.specs.Calls.{watched, lit, checkedOf, openCall, lookCall, st
 use Rattle.witness.specs.declared.Witnessed.{Witnessed}
 use Rattle.witness.specs.Calls.{AnsweredAs, Answered, askedOf, witnessOutcome}
 use Rattle.witness.specs.OnPaper.{witnessed}
-use Rattle.promises.specs.Causes.{
+use Rattle.refusals.specs.Causes.{
   Rows,
   end,
   row,
@@ -80,7 +80,7 @@ use Rattle.promises.specs.Causes.{
   causes,
   printCauses,
 }
-use Rattle.promises.specs.Judged.{
+use Rattle.refusals.specs.Judged.{
   first-one,
   Judged,
   by-row,

@@ -42,8 +42,8 @@ use Rattle.course.specs.CourseRight.{held-at}
 use Rattle.report.specs.Text.{startText}
 use Rattle.transcript.specs.Lines.{dark}
 use Rattle.transcript.specs.Said as said
 use Rattle.promises.specs.Demand.{Lit, lamp-right}
-use Rattle.promises.specs.FrontDoor.{LegalAt, RightAfter, Ends, at-end, at-event, lineOf, Shows, refused}
+use Rattle.front_door.specs.FrontDoor.{LegalAt, RightAfter, Ends, at-end, at-event, lineOf, Shows, refused}
 
 -- a log of w digits is accepted, and says these events
 pub record Taken (w : ℕ) (log : List ℕ) (es : List Event) : Type 0 where

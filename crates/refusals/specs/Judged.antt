@@ -11,7 +11,7 @@ use Rattle.answers.specs.declared.Outcome.the-variants.{Accepted, Refused}
 use Rattle.answers.specs.Paper.{Paper, verdict, refused, accepted, kindNumber, refusal}
 use Rattle.answers.specs.Chain.{refusedAs, andThen, unless}
 use Rattle.answers.specs.Promises.{one-kind}
-use Rattle.promises.specs.Causes.{Rows, end, row, First, Because, NoCause, Taken}
+use Rattle.refusals.specs.Causes.{Rows, end, row, First, Because, NoCause, Taken}
 
 -- ---- tables
 

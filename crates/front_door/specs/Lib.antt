@@ -1,0 +1,5 @@
+pub mod FrontDoor
+mod Lamps
+mod RuleEnd
+pub mod FromTexts
+pub mod OneOutput

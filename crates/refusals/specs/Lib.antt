@@ -1,0 +1,4 @@
+pub mod Causes
+mod Judged
+pub mod Refusals
+pub mod OnPaper

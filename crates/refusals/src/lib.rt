@@ -1,0 +1,1 @@
+// By what each call is refused, exactly: theorems only, in specs/.
