@@ -1,5 +1,7 @@
 // How runs go on in the marked examples of 01, M1 to M10, and in P, the program's own: two lines at the start and two at the end of each log.
+use answers::Outcome;
 use plant::Plant;
+use syntax::Rule;
 
 // Plant W of 01, whose fairness sets and moves an example may change.
 fn show(name: &[u8], fair: &[u64], next: &[u64], text: &[u8], events: &[u8]) {
@@ -11,8 +13,11 @@ fn show(name: &[u8], fair: &[u64], next: &[u64], text: &[u8], events: &[u8]) {
     };
     let label = [0u16, 1, 2];
     let read = rule::read_rule(plant, fair, &label, next, text);
-    let rule = read.rule;
-    outlook::show_end(name, plant, fair, &label, next, rule, events);
+    let rule: Rule = read.rule;
+    let outcome: Outcome = read.outcome;
+    if let Outcome::Accepted = outcome {
+        outlook::show_end(name, plant, fair, &label, next, rule, events);
+    }
 }
 
 fn on_w(name: &[u8], text: &[u8], events: &[u8]) {
