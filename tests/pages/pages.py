@@ -1,8 +1,11 @@
 """The pages beside the tree. See tests/pages/run.
 
 A link `[words](target)`: the target is a file, a folder, or a heading of a page. Where the words are `a name` and the target a file of code or specs,
-that file defines the name. A row of a table in docs/PROMISES.md whose last cell names files, as `plant/specs/Promises; text/specs`: each `name` in the
-cell before it is defined in one of them.
+that file defines the name.
+A row of docs/PROMISES.md whose last cell names files, as `plant/specs/Promises; text/specs`: each `name` in the cell before it is defined in one of them.
+A row of its table of the paper's sentences (what the paper says, definition, theorem, edits): in the second and the third cell each part up to a `;` has its
+names and then the files, and each name is defined in one of these. Each edit of the fourth, as `crate/edit`, is there, and where none is named stands why.
+The edits of any other table whose last heading says so are there too.
 """
 import glob
 import os
@@ -10,6 +13,7 @@ import re
 import sys
 
 PAGES = ['README.md', 'CONTRIBUTING.md', 'tests/README.md'] + sorted(glob.glob('docs/*.md'))
+SENTENCES = ['what the paper says', 'definition', 'theorem on the calls', 'edits']
 
 
 def read(path):
@@ -59,21 +63,75 @@ def places(cell):
     return found
 
 
+def tables(page):
+    """The tables of a page: each the list of its rows, each row the list of its cells."""
+    table = []
+    for line in read(page).splitlines() + ['']:
+        if line.startswith('|'):
+            table.append([c.strip() for c in line.strip().strip('|').split('|')])
+        elif table:
+            yield table
+            table = []
+
+
+def stand(page, names, files):
+    """What is wrong where each name of a cell has to be defined in one of the files."""
+    for path in files:
+        if not os.path.exists(path):
+            yield '%s: there is no %s' % (page, path)
+    for name in re.findall(r'`([^`]+)`', names):
+        if not any(os.path.exists(f) and defines(f, name) for f in files):
+            yield '%s: none of %s defines `%s`' % (page, ', '.join(files), name)
+
+
+def named(page, cell):
+    """What is wrong in a cell of names and files. Names stand before their files, and behind the last ones what is of these."""
+    for part in cell.split(';'):
+        groups = re.findall(r'(.*?)((?:\b[a-z_]+/(?:specs|src|proofs)(?:/\w+)*(?:,\s*)?)+)', part)
+        if '`' in part and not groups:
+            yield '%s: no file for %s' % (page, part.strip())
+        for names, files in groups:
+            yield from stand(page, names, places(files))
+        if groups:
+            yield from stand(page, part[part.rindex(groups[-1][1]) + len(groups[-1][1]):], places(groups[-1][1]))
+
+
+def edits(page, cell):
+    """What is wrong in a cell of edits."""
+    found = re.findall(r'\b([a-z_]+)/([a-z_0-9]+)', cell)
+    for crate, edit in found:
+        if not os.path.exists('crates/%s/must-fail/%s.edit' % (crate, edit)):
+            yield '%s: there is no edit %s/%s' % (page, crate, edit)
+
+
+def sentence(page, cells):
+    """A row of the table of sentences: none of its cells is empty but in the row of a section's name."""
+    if cells[1:] == ['', '', '']:
+        return
+    if len(cells) != 4 or '' in cells:
+        yield '%s: a row with no definition, theorem or edit, and no ground: %s' % (page, cells[0])
+        return
+    yield from named(page, cells[1])
+    yield from named(page, cells[2])
+    yield from edits(page, cells[3])
+    if cells[3] == '-':
+        yield '%s: no edit, and no ground: %s' % (page, cells[0])
+
+
 def rows(page):
-    for line in read(page).splitlines():
-        cells = [c.strip() for c in line.strip().strip('|').split('|')]
-        if not line.startswith('| ') or len(cells) < 3 or not places(cells[-1]):
-            continue
-        files = places(cells[-1])
-        for path in files:
-            if not os.path.exists(path):
-                yield '%s: there is no %s' % (page, path)
-        for name in re.findall(r'`([^`]+)`', cells[-2]):
-            if not any(os.path.exists(f) and defines(f, name) for f in files):
-                yield '%s: none of %s defines `%s`' % (page, ', '.join(files), name)
+    for head, _, *body in tables(page):
+        for cells in body:
+            if head == SENTENCES:
+                yield from sentence(page, cells)
+            elif head[-1] == 'edits':
+                yield from edits(page, cells[-1])
+            elif len(cells) > 2 and places(cells[-1]):
+                yield from stand(page, cells[-2], places(cells[-1]))
 
 
+if not any(table[0] == SENTENCES for table in tables('docs/PROMISES.md')):
+    sys.exit('pages: docs/PROMISES.md has no table of sentences')
 wrong = [w for page in PAGES if os.path.exists(page) for w in links(page)] + list(rows('docs/PROMISES.md'))
 if wrong:
     sys.exit('\n'.join(['pages: what the pages name is not in the tree'] + wrong))
-print('pages: every link leads somewhere, and every name stands where it is said to')
+print('pages: every link leads somewhere, every name stands where it is said to, and every edit is there')
