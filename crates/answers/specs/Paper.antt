@@ -20,6 +20,7 @@ use Rattle.answers.specs.declared.Kind.the-variants.{
   LogText,
   NoPair,
   File,
+  Number,
 }
 use Rattle.answers.specs.declared.Refusal.{Refusal}
 use Rattle.answers.specs.declared.Answer.{Answer}
@@ -42,7 +43,7 @@ numberOf True = 1
 numberOf False = 2
 numberOf OutOfModel = 3
 
--- 01's table of refusals
+-- 01's table of refusals, and 02's 16
 abbrev pub kindNumber : Kind → ℕ
 kindNumber Counts = 1
 kindNumber Bits = 2
@@ -58,6 +59,7 @@ kindNumber Room = 11
 kindNumber LogText = 12
 kindNumber NoPair = 13
 kindNumber File = 14
+kindNumber Number = 16
 
 -- a refusal, and each answer, on paper
 abbrev pub refusal : Refusal → Paper

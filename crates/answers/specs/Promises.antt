@@ -24,6 +24,7 @@ use Rattle.answers.specs.declared.Kind.the-variants.{
   LogText,
   NoPair,
   File,
+  Number,
 }
 use Rattle.answers.specs.declared.Answer.{Answer}
 use Rattle.answers.specs.declared.Answer.the-variants.{Shown}
@@ -42,13 +43,13 @@ verdict-number true false = refl
 verdict-number false true = refl
 verdict-number false false = refl
 
--- a verdict, and a kind of refusal, from its number
+-- a verdict, and a kind of refusal, from its number; File stands also where there is no such number
 abbrev verdicts : List Verdict
 verdicts = Inconclusive ∷ True ∷ False ∷ OutOfModel ∷ []
 
 abbrev kinds : List Kind
 kinds =
-    File ∷ Counts ∷ Bits ∷ TableText ∷ RuleLength ∷ RuleText ∷ Proposition ∷ Nodes ∷ Parts ∷ Value ∷ IllegalEvent ∷ Room ∷ LogText ∷ NoPair ∷ []
+    File ∷ Counts ∷ Bits ∷ TableText ∷ RuleLength ∷ RuleText ∷ Proposition ∷ Nodes ∷ Parts ∷ Value ∷ IllegalEvent ∷ Room ∷ LogText ∷ NoPair ∷ File ∷ File ∷ Number ∷ []
 
 verdict-back : (v : Verdict) → getD verdicts (numberOf v) Inconclusive ≡ v
 verdict-back Inconclusive = refl
@@ -71,6 +72,7 @@ kind-back Room = refl
 kind-back LogText = refl
 kind-back NoPair = refl
 kind-back File = refl
+kind-back Number = refl
 
 pub one-verdict : (v w : Verdict) → numberOf v ≡ numberOf w → v ≡ w
 one-verdict v w same = cc (verdict-back v, verdict-back w, ap (λ n. getD verdicts n Inconclusive) same)

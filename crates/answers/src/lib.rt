@@ -72,6 +72,7 @@ pub enum Kind {
     LogText,
     NoPair,
     File,
+    Number,
 }
 
 impl Kind {
@@ -103,6 +104,8 @@ impl Kind {
 
     pub const FILE: u8 = 14;
 
+    pub const NUMBER: u8 = 16;
+
     pub fn number(self) -> u8
         ensures { λ r. ⌜ r ≡ kindNumber self ⌝ }
     {
@@ -121,6 +124,7 @@ impl Kind {
             Kind::LogText => Kind::LOG_TEXT,
             Kind::NoPair => Kind::NO_PAIR,
             Kind::File => Kind::FILE,
+            Kind::Number => Kind::NUMBER,
         }
     }
 }

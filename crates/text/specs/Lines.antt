@@ -68,7 +68,7 @@ unfolding begun
 begun-holds n long some = rw start-is (omega (arith, lt-div-mul-add {a = long + (n - 1)} {b = n} some))
 
 -- and fewer have not
-begun-least : (n long k : ℕ) → 0 < n → long ≤ lineStart n k → begun n long ≤ k
+pub begun-least : (n long k : ℕ) → 0 < n → long ≤ lineStart n k → begun n long ≤ k
 unfolding begun offset
 begun-least n long k some h = omega (arith, div-lt-iff-lt-mul {x = long + (n - 1)} {y = suc k} some .1 (rw (← start-is n (suc k)) (omega arith)))
 
@@ -94,7 +94,7 @@ all-begun n long k some e = (sums, rw (e, start-is) (mul-div-cancel k some))
 
 module _ {A : Type 0} (F : Form A) (n : ℕ) (fixed : Fixed F n) where
   -- what is guessed is of the form
-  fine-line : (s : List ℕ) (k : ℕ) → F .Ok (lineAt F n s k)
+  pub fine-line : (s : List ℕ) (k : ℕ) → F .Ok (lineAt F n s k)
   fine-line s k = fixed .reads .fine (drop (lineStart n k) s)
 
   pub lines-long : (s : List ℕ) (k : ℕ) → length (linesSlots F k (lineAt F n s)) ≡ lineStart n k

@@ -2,7 +2,7 @@
 use Prim.Native.Nat.{ℕ, _+_, _-_, _/_, _≤_, _<_}
 use mathlib.Core.Path.{_≡_, refl, sym, ap, _∙_}
 use mathlib.Core.Bool.{cond}
-use mathlib.Core.List.{List, []}
+use mathlib.Core.List.{List, [], _++_}
 use mathlib.Core.Logic.{_↔_, inl, ⊎-elim}
 use native.Mathlib.Numerals.{add-one}
 use native.Mathlib.Omega.{arith}
@@ -13,11 +13,11 @@ use lib.ListN.{length, take, drop, getD, length-drop, List·getD-eq-default}
 use Rattle.words.specs.Below.{listBelow}
 use Rattle.words.specs.Lists.{length-list, at-list}
 use Rattle.text.specs.Slot.{Slot, matched}
-use Rattle.text.specs.Matched.{matched-text, matched-slots, matched-all}
+use Rattle.text.specs.Matched.{matched-text, matched-slots, matched-all, matched-longer}
 use Rattle.text.specs.Form.{Form}
 use Rattle.text.specs.Cases.{below-or-beyond}
-use Rattle.text.specs.Many.{slotsBelow, offset}
-use Rattle.text.specs.Place.{Fills, OfForm, RefusedAt, of-form-fills}
+use Rattle.text.specs.Many.{slotsBelow, offset, below-same, below-length, below-exact}
+use Rattle.text.specs.Place.{Fills, OfForm, RefusedAt, of-form-fills, refused-at}
 use Rattle.text.specs.Promises.{fitOf, form-or-place}
 use Rattle.text.specs.Lines.{Fixed, lineStart, begun, linesSlots, lineAt, lines, start-grows, begun-holds, begun-more, all-begun, lines-long, enough, guess-slots, guess-length, lines-whole}
 
@@ -164,3 +164,23 @@ module _ {A : Type 0} (F : Form A) (n : ℕ) (fixed : Fixed F n) where
               (λ (l : linesGood F n s < lineStart n m). misfit (linesGood F n s) (rw (guess-slots F n fixed none s) at p) (rw (lt-ltb (linesGood F n s) (lineStart n m) l)))
               (λ (l : lineStart n m ≤ linesGood F n s). absurd (p .not-of-form (of-form-fills (lines-whole F n fixed none) s .1 (fills-good s .1 l))))
               (below-or-beyond (linesGood F n s) (lineStart n m))
+
+    -- lines that a text fills go on to fit where more follows
+    pub fills-fit : (l : List A) (s r : List ℕ) → lines F n none .Ok l → Fills s (lines F n none .slots l) → (length s ≡ lineStart n (length l)) × Fit F n (s ++ r) (length l)
+    unfolding lines
+    fills-fit l s r ok f =
+        let all = matched-longer s r (linesSlots F (length l) (λ k. getD l k none)) (f .all) in
+        let same = below-same (λ j. F) (length l) (lineAt F n (s ++ r)) (λ k. getD l k none) (below-exact (λ j. F) (λ j. n) (λ j. fixed .bytes) (λ j. fixed .reads) (length l) (λ k. getD l k none) (s ++ r) ok all) in
+        let long = below-length (λ j. F) (λ j. n) (λ j. fixed .bytes) (length l) (λ k. getD l k none) ok in
+        (sym (f .long) ∙ long, record { fits = ap (matched (s ++ r)) same ∙ all ∙ long })
+
+    -- behind k lines that fit, a line that begins with no byte of the form is refused at its first byte
+    pub odd-line :
+        (s : List ℕ) (k : ℕ) → Fit F n s k → lineStart n k < length s → ((a : A) → F .Ok a → matched (drop (lineStart n k) s) (F .slots a) ≡ 0)
+        → RefusedAt (lines F n none) s (lineStart n k)
+    odd-line s k h b odd =
+        let r = drop (lineStart n k) s in
+        let l : IsLine F r (F .guess r) 0 = record { is = refl; goes = sym (odd (F .guess r) (fixed .reads .fine r)) } in
+        let (w, less) = stops s k 0 (F .guess r) h b l (fixed .some) in
+        let i : linesGood F n s ≡ lineStart n k = omega (arith, w) in
+        rw (guess-slots F n fixed none s, i) at (refused-at (lines-whole F n fixed none) s (λ f. omega (arith, fills-good s .0 f)))

@@ -69,6 +69,19 @@ matched-both s ts us h =
     ⊎-elim (λ (e : matched s ts ≡ length ts). (e, omega (arith, matched-all s ts us e, length-append ts us)))
     (λ (l : matched s ts < length ts). absurd (omega (arith, matched-less s ts us l, length-append ts us))) (eq-or-lt-of-le (matched-slots s ts))
 
+-- what fits goes on to fit where more follows
+pub matched-longer : (s r : List ℕ) (ts : List Slot) → matched s ts ≡ length ts → matched (s ++ r) ts ≡ length ts
+unfolding matched
+matched-longer [] r [] h = omega (arith, matched-slots r [])
+matched-longer [] r (t ∷ ts) h = absurd (omega arith)
+matched-longer (b ∷ s) r [] h = refl
+matched-longer (b ∷ s) r (t ∷ ts) h = by-test (admits t b) h (matched-longer s r ts)
+  where
+    by-test : (x : Bool) → cond x (suc (matched s ts)) 0 ≡ suc (length ts) → (matched s ts ≡ length ts → matched (s ++ r) ts ≡ length ts)
+        → cond x (suc (matched (s ++ r) ts)) 0 ≡ suc (length ts)
+    by-test true e h = ap suc (h (omega arith))
+    by-test false e h = absurd (omega arith)
+
 -- ---- the first byte
 
 pub first-admits : (s : List ℕ) (t : Slot) (ts : List Slot) → 0 < matched s (t ∷ ts) → (0 < length s) × (admits t (getD s 0 0) ≡ true)

@@ -30,7 +30,7 @@ pub struct Counted {
 }
 
 // The byte at a place, and 0 beyond the end.
-fn byte_at(text: &[u8], at: usize) -> u8
+pub fn byte_at(text: &[u8], at: usize) -> u8
     ensures { λ r. ⌜ r ≡ getD (now (text .entry)) at 0 ⌝ }
 {
     if at < text.len() { text[at] } else { 0 }

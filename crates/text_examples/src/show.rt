@@ -2,6 +2,7 @@
 use answers::Outcome;
 use libc::STDOUT_FILENO;
 use log::Event;
+use log::Num;
 use plant::Plant;
 
 pub fn put(bytes: &[u8]) {
@@ -88,7 +89,16 @@ pub fn table(text: &[u8]) {
 
 fn event(text: &[u8], line: usize, props: usize) {
     let event = log::event_at(text, line, props);
-    number(b" ", event.see as usize);
+    let num = event.num;
+    put(b" ");
+    match num {
+        Num::Expected => put(b""),
+        Num::Given(n) => {
+            digits(n as usize);
+            put(b":");
+        }
+    }
+    digits(event.see as usize);
     number(b"/", event.val as usize);
     if event.new {
         put(b"/new");
@@ -136,6 +146,7 @@ fn set_told(text: &[u8], k: usize) -> u16 {
 
 pub fn legal(text: &[u8]) {
     let event = Event {
+        num: Num::Expected,
         see: set_told(text, 0),
         val: set_told(text, 1),
         new: false,

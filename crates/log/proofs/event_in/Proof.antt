@@ -7,7 +7,7 @@ use lib.ListN.{length}
 use Rattle.text.specs.Lines.{start-is, lines-inside}
 use Rattle.text.specs.LinesRead.{lineOr, lent-line}
 use Rattle.log.specs.Line.{lineBytes}
-use Rattle.log.specs.Read.{eventAt}
+use Rattle.log.specs.Read.{eventAs}
 use borrow.Author.Needs.{needs}
 use Rattle.log.proofs.event_in.Statement.{statement}
 use Rattle.log.proofs.event_in.Tie as tie
@@ -23,15 +23,15 @@ part-read-line-start : tie.Need-part-read-line-start
 part-read-line-start c = omega (arith, inside c)
 
 returns : tie.Need-returns
-unfolding eventAt lineOr
+unfolding eventAs lineOr
 returns c =
     let if = c .before .before .before in
     let a = if .before .before .before .args in
     let wide = if .before .bytes-of .ensures in
-    rw (lt-ltb _ _ (rw wide at (if .if1 .taken))) (lent-line (a .text .now) _ _ _ _ (ap (λ (n : ℕ). a .line * n) wide ∙ sym (start-is (lineBytes (a .width)) (a .line))) (c .before .read-line .ensures) .is)
+    rw (lt-ltb _ _ (rw wide at (if .if1 .taken))) (lent-line (a .text .now) _ _ _ _ (ap (λ (n : ℕ). a .line * n) wide ∙ sym (start-is (lineBytes (a .numbered) (a .width)) (a .line))) (c .before .read-line .ensures) .is)
 
 returns-2 : tie.Need-returns-2
-unfolding eventAt lineOr
+unfolding eventAs lineOr
 returns-2 c = rw (le-ltb _ _ (rw (c .before .bytes-of .ensures) at (c .if1 .left)))
 
 pub event-in-spec : {M : Type 1} → statement M
