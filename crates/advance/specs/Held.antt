@@ -1,4 +1,5 @@
 -- A monitor and an event, as code has them and as the model has them; and the lamp.
+use Prim.Native.Nat.{ℕ}
 use mathlib.Core.Bool.{not}
 use Rattle.meaning.specs.Event as meaning
 use Rattle.model.specs.Monitor as model
@@ -12,8 +13,9 @@ use Rattle.advance.specs.declared.Monitor.{Monitor}
 abbrev pub modelOf : Monitor → model.Monitor
 modelOf m = record { seen = m .seen; keeps = m .keeps .words; breaks = m .breaks .words }
 
-abbrev pub monitorOf : model.Monitor → Monitor
-monitorOf m = record { seen = m .seen; keeps = record { words = m .keeps }; breaks = record { words = m .breaks } }
+-- with the number that it expects, which the model does not know of
+abbrev pub monitorOf : ℕ → model.Monitor → Monitor
+monitorOf expected m = record { seen = m .seen; keeps = record { words = m .keeps }; breaks = record { words = m .breaks }; expected = expected }
 
 abbrev pub eventOf : Event → meaning.Event
 eventOf e = record { seen = seenOf e; new = e .new }

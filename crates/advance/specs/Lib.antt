@@ -1,3 +1,4 @@
 pub mod Held
+pub mod Numbers
 pub mod Sides
 pub mod SidesRight

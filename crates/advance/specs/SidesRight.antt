@@ -1,18 +1,20 @@
 -- With what an accepted rule says, the sides are those of the model.
-use Prim.Native.Nat.{ℕ, _^_, _≤_, _<_}
+use Prim.Native.Nat.{ℕ, zero, suc, _+_, _-_, _^_, _≤_, _<_}
+use native.Mathlib.Numerals.{add-one}
 use native.Mathlib.Omega.{arith}
 use native.Mathlib.Nat.{lt-of-lt-of-le}
 use native.Mathlib.Decide.{decLt}
 use mathlib.Core.Path.{_≡_, refl, sym, ap, ap₂, _∙_}
 use mathlib.Core.Bool.{Bool, true, false, So, _&&_, cond}
-use mathlib.Core.List.{List}
+use mathlib.Core.List.{List, [], _∷_, _++_, foldl, foldl-append}
 use lib.Bits.{bitAnd}
 use lib.Dec.{ltb}
-use lib.ListN.{getD}
+use lib.ListN.{getD, replicate}
 use borrow.Author.Tests.{lt-ltb, le-ltb}
 use Rattle.meaning.specs.Bit.{bit}
 use Rattle.meaning.specs.Formula.{Formula, parts}
 use Rattle.meaning.specs.Run as run
+use Rattle.meaning.specs.Event as meaning
 use Rattle.meaning.specs.Limits.{AcceptedTable, Small}
 use Rattle.words.specs.Truth.{not-so, and-says}
 use Rattle.words.specs.Word.{onlyOf}
@@ -27,13 +29,14 @@ use Rattle.model.specs.Sets.{PairSet}
 use Rattle.model.specs.Moves.{from, to}
 use Rattle.model.specs.Monitor as model
 use Rattle.model.specs.Values.{holding-bit}
-use Rattle.model.specs.Rule.{both-set}
+use Rattle.model.specs.Rule.{both-set, step-sets}
 use Rattle.pairs.specs.Sets.{inside, joinOf, inside-words}
 use Rattle.model.specs.Code.{moved-image}
 use Rattle.leads.specs.Halves.{fromIn, toIn}
 use Rattle.leads.specs.HalvesRight.{image-halves}
 use Rattle.syntax.specs.declared.Rule.{Rule}
 use Rattle.log.specs.declared.Event.{Event}
+use Rattle.log.specs.Log.{nothing}
 use Rattle.truth.specs.declared.tables.Tables.{Tables}
 use Rattle.truth.specs.Tables.{tablesOf}
 use Rattle.truth.specs.RightTables.{RightTables}
@@ -41,7 +44,8 @@ use Rattle.ways.specs.declared.Ways.{Ways}
 use Rattle.ways.specs.Ways.{waysFrom, waysOf}
 use Rattle.advance.specs.declared.Monitor.{Monitor}
 use Rattle.advance.specs.Held.{modelOf, monitorOf, eventOf}
-use Rattle.advance.specs.Sides.{sidesOf, valueIn, splitIn, splitOf, cutIn, cutOf, openedBy, keptOf, movedBy, movedIn, reachedBy, restartedBy, restartedIn, advancedBy, advancedIn}
+use Rattle.advance.specs.Numbers.{numberOf, missingOf, first-none, unseen, brings}
+use Rattle.advance.specs.Sides.{sidesOf, valueIn, splitIn, splitOf, cutIn, cutOf, openedBy, keptOf, movedBy, movedIn, reachedBy, restartedBy, restartedIn, advancedBy, advancedIn, caughtUpBy, caughtUpIn, cameBy, cameIn, expecting, takenIn}
 
 -- words that are 0 from n on may be made by a loop to 64
 words-wide : (n : ℕ) (f g : ℕ → ℕ) → n ≤ 64 → ((v : ℕ) → v < n → f v ≡ g v) → ((v : ℕ) → n ≤ v → g v ≡ 0) → wordsBelow n f ≡ wordsBelow 64 g
@@ -124,9 +128,9 @@ module _ (T : run.Plant) (f : Formula) (A : AcceptedTable T) (small : Small f) (
   w = waysOf (T .label) rule
 
   -- a monitor opened
-  pub opened-right : openedBy (T .start) (w .holds) live ≡ monitorOf (model.opening T f live)
+  pub opened-right : openedBy (T .start) (w .holds) live ≡ monitorOf 0 (model.opening T f live)
   unfolding openedBy model.opening waysOf
-  opened-right = ap₂ (sidesOf false) (sym (opens true)) (sym (opens false))
+  opened-right = ap₂ (sidesOf 0 false) (sym (opens true)) (sym (opens false))
     where
       opens : (b : Bool) → wordsBelow (2 ^ parts f) (model.opensAt T f live b) ≡ splitOf live (T .start) (tablesOf (T .label) rule .holds) b
       opens = opens-right T f A small live z (tablesOf (T .label) rule) R
@@ -171,25 +175,83 @@ module _ (T : run.Plant) (f : Formula) (A : AcceptedTable T) (small : Small f) (
     abbrev restarts : Monitor
     restarts = restartedIn (T .next) w live m agree
 
-    pub advanced-right : advancedIn (T .label) (T .next) w live m e ≡ monitorOf (model.stepOf T f live (modelOf m) (eventOf e))
+    pub advanced-right : advancedIn (T .label) (T .next) w live m e ≡ monitorOf (m .expected) (model.stepOf T f live (modelOf m) (eventOf e))
     unfolding advancedBy keptOf movedBy restartedBy model.stepOf
     advanced-right = by-seen (m .seen) refl
       where
-        by-new : m .seen ≡ true → (n : Bool) → e .new ≡ n → cond n restarts moves ≡ sidesOf true (after true) (after false)
-        by-new seen true new = ap₂ (sidesOf true) (sym (new-side seen new true)) (sym (new-side seen new false))
-        by-new seen false new = ap₂ (sidesOf true) (sym (next-side seen new true)) (sym (next-side seen new false))
+        by-new : m .seen ≡ true → (n : Bool) → e .new ≡ n → cond n restarts moves ≡ sidesOf (m .expected) true (after true) (after false)
+        by-new seen true new = ap₂ (sidesOf (m .expected) true) (sym (new-side seen new true)) (sym (new-side seen new false))
+        by-new seen false new = ap₂ (sidesOf (m .expected) true) (sym (next-side seen new true)) (sym (next-side seen new false))
 
         by-seen : (s : Bool) → m .seen ≡ s
-            → cond s (cond (e .new) restarts moves) (keptOf m live agree) ≡ sidesOf true (after true) (after false)
+            → cond s (cond (e .new) restarts moves) (keptOf m live agree) ≡ sidesOf (m .expected) true (after true) (after false)
         by-seen true seen = by-new seen (e .new) refl
-        by-seen false seen = ap₂ (sidesOf true) (sym (first-side seen true)) (sym (first-side seen false))
+        by-seen false seen = ap₂ (sidesOf (m .expected) true) (sym (first-side seen true)) (sym (first-side seen false))
 
--- ---- for code: the two sides after a restart, and the monitor advanced, in each of the three cases
+  -- ---- events with numbers
+
+  abbrev step : model.Monitor → meaning.Event → model.Monitor
+  step = model.stepOf T f live
+
+  -- both sets of a monitor are of the table and the rule
+  abbrev Sets : model.Monitor → Type 0
+  Sets x = (b : Bool) → PairSet T f (model.side x b)
+
+  -- they stay so, and an event that came stays one
+  pub sets-on : (es : List meaning.Event) (x : model.Monitor) → Sets x → Sets (foldl step x es)
+  sets-on [] x sets = sets
+  sets-on (e ∷ es) x sets = sets-on es (step x e) (step-sets T f A small live z x sets e)
+
+  seen-on : (es : List meaning.Event) (x : model.Monitor) → x .seen ≡ true → foldl step x es .seen ≡ true
+  unfolding model.stepOf
+  seen-on [] x seen = seen
+  seen-on (e ∷ es) x seen = seen-on es (step x e) refl
+
+  unseen-more : (k : ℕ) (x : model.Monitor) → foldl step x (replicate (suc k) unseen) ≡ step (foldl step x (replicate k unseen)) unseen
+  unseen-more zero x = refl
+  unseen-more (suc k) x = unseen-more k (step x unseen)
+
+  -- an unseen event behind another is a move
+  unseen-right : (n : ℕ) (x : model.Monitor) → Sets x → x .seen ≡ true → movedIn (T .next) w live (monitorOf n x) (agreeingOf (T .label) 0 0) ≡ monitorOf n (step x unseen)
+  unfolding advancedBy
+  unseen-right n x sets seen =
+      sym (ap (λ (s : Bool). cond s (movedIn (T .next) w live (monitorOf n x) (agreeingOf (T .label) 0 0)) (keptOf (monitorOf n x) live (agreeingOf (T .label) 0 0))) seen)
+      ∙ advanced-right (monitorOf n x) sets nothing
+
+  module _ (m : Monitor) (held : Sets (modelOf m)) where
+    caught-right : m .seen ≡ true → (k : ℕ) → caughtUpIn (T .label) (T .next) w live m k ≡ monitorOf (m .expected) (foldl step (modelOf m) (replicate k unseen))
+    unfolding caughtUpBy
+    caught-right seen zero = refl
+    caught-right seen (suc k) =
+        let gone = replicate k unseen in
+        ap (λ (x : Monitor). movedIn (T .next) w live x (agreeingOf (T .label) 0 0)) (caught-right seen k)
+        ∙ unseen-right (m .expected) (foldl step (modelOf m) gone) (sets-on gone (modelOf m) held) (seen-on gone (modelOf m) seen)
+        ∙ ap (monitorOf (m .expected)) (sym (unseen-more k (modelOf m)))
+
+    came-right : (e : Event) (k : ℕ) → (m .seen ≡ false → k ≡ 0)
+        → cameIn (T .label) (T .next) w live m k e ≡ monitorOf (m .expected) (foldl step (modelOf m) (replicate k unseen ++ eventOf e ∷ []))
+    unfolding caughtUpBy
+    came-right e k none = by-seen (m .seen) refl
+      where
+        by-seen : (s : Bool) → m .seen ≡ s → cameIn (T .label) (T .next) w live m k e ≡ monitorOf (m .expected) (foldl step (modelOf m) (replicate k unseen ++ eventOf e ∷ []))
+        by-seen false seen = rw (none seen) (advanced-right m held e)
+        by-seen true seen =
+            let gone = replicate k unseen in
+            ap (λ (x : Monitor). advancedIn (T .label) (T .next) w live x e) (caught-right seen k)
+            ∙ advanced-right (monitorOf (m .expected) (foldl step (modelOf m) gone)) (sets-on gone (modelOf m) held) e
+            ∙ ap (monitorOf (m .expected)) (sym (foldl-append step (modelOf m) gone (eventOf e ∷ [])))
+
+  -- an event taken is all that it brings
+  pub taken-right : (m : Monitor) → Sets (modelOf m) → (e : Event)
+      → takenIn (T .label) (T .next) w live m e ≡ monitorOf (numberOf (e .num) (m .expected) + 1) (foldl step (modelOf m) (brings (m .seen) (m .expected) e))
+  taken-right m held e = let n = numberOf (e .num) (m .expected) in came-right (expecting (n + 1) m) held e (missingOf (m .seen) (m .expected) n) (first-none (m .seen) (m .expected) n)
+
+-- ---- for code: the two sides after a restart, the monitor advanced, in each of the three cases, and with a number
 
 pub restarted-whole : (next leave enter holds : List ℕ) (count : ℕ) (live : List ℕ) (m : Monitor) (agree : ℕ) {both reached keeps breaks : List ℕ}
     → both ≡ joinOf (m .keeps .words) (m .breaks .words) → reached ≡ imageOf next both (fromIn leave) (toIn enter) count live agree
     → keeps ≡ splitOf reached agree holds true → breaks ≡ splitOf reached agree holds false
-    → sidesOf true keeps breaks ≡ restartedBy next leave enter holds count live m agree
+    → sidesOf (m .expected) true keeps breaks ≡ restartedBy next leave enter holds count live m agree
 unfolding restartedBy
 restarted-whole next leave enter holds count live m agree eb er ek el = rw (ek, el, er, eb)
 
@@ -209,3 +271,36 @@ module _ (label next leave enter holds : List ℕ) (count : ℕ) (live : List �
     pub advanced-first : m .seen ≡ false → n ≡ keptOf m live agree → n ≡ advanced
     unfolding advancedBy
     advanced-first seen en = en ∙ rw (seen, a)
+
+module _ (label next leave enter : List ℕ) (count : ℕ) (live : List ℕ) (m : Monitor) where
+  -- behind k events that are missing
+  abbrev caught : ℕ → Monitor
+  caught k = caughtUpBy label next leave enter count live m k
+
+  pub caught-more : (k : ℕ) {x now : Monitor} {agree : ℕ} → now ≡ caught k → agree ≡ agreeingOf label 0 0 → x ≡ movedBy next leave enter count live now agree → x ≡ caught (k + 1)
+  unfolding caughtUpBy
+  caught-more k is all moves = rw add-one (moves ∙ rw (is, all) refl)
+
+  caught-seen : m .seen ≡ true → (k : ℕ) → caught k .seen ≡ true
+  unfolding caughtUpBy movedBy
+  caught-seen seen zero = seen
+  caught-seen seen (suc k) = refl
+
+  module _ (holds : List ℕ) (e : Event) (k : ℕ) where
+    -- nothing is missing, or some are caught up with
+    pub came-at-once : {x : Monitor} → k ≡ 0 → x ≡ advancedBy label next leave enter holds count live m e → x ≡ cameBy label next leave enter holds count live m k e
+    unfolding caughtUpBy
+    came-at-once none is = is ∙ rw none refl
+
+    pub came-behind : {now x : Monitor} → now ≡ caught k → x ≡ advancedBy label next leave enter holds count live now e → x ≡ cameBy label next leave enter holds count live m k e
+    came-behind is goes = rw is at goes
+
+    module _ {agree : ℕ} {x : Monitor} (a : agree ≡ agreeingOf label (e .see) (e .val)) where
+      pub came-new : m .seen ≡ true → e .new ≡ true → x ≡ restartedBy next leave enter holds count live (caught k) agree → x ≡ cameBy label next leave enter holds count live m k e
+      came-new seen new is = advanced-new label next leave enter holds count live (caught k) e a (caught-seen seen k) new is
+
+      pub came-next : m .seen ≡ true → e .new ≡ false → x ≡ movedBy next leave enter count live (caught k) agree → x ≡ cameBy label next leave enter holds count live m k e
+      came-next seen new is = advanced-next label next leave enter holds count live (caught k) e a (caught-seen seen k) new is
+
+      pub came-first : k ≡ 0 → m .seen ≡ false → x ≡ keptOf m live agree → x ≡ cameBy label next leave enter holds count live m k e
+      came-first none seen is = came-at-once none (advanced-first label next leave enter holds count live m e a seen is)

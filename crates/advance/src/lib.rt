@@ -1,5 +1,6 @@
 // One event more, with all that a rule says lent, and nothing checked: what the monitor does behind its checks, and a loop over many events
 // in each turn.
+pub mod numbers;
 pub mod opening;
 pub mod sides;
 
@@ -14,20 +15,29 @@ ghost use mathlib.Core.Path.{_≡_};
 ghost use Prim.Native.Nat.{_≤_};
 ghost use lib.ListN.{length};
 ghost use Rattle.advance.specs.Held.{modelOf, lampIn};
-ghost use Rattle.advance.specs.Sides.{advancedBy};
+ghost use Rattle.advance.specs.Sides.{advancedBy, caughtUpBy, cameBy};
 
-// Whether an event came, and the pairs of the runs that keep the rule and of those that break it.
+// Whether an event came, the pairs of the runs that keep the rule and of those that break it, and the number that the next event is expected
+// to have.
 pub struct Monitor {
     pub seen: bool,
     pub keeps: Pairs,
     pub breaks: Pairs,
+    pub expected: u64,
 }
 
 impl Monitor {
+    // Numbers have 32 bits. Expected behind the last of them, this says that they are used up.
+    pub const USED_UP: u64 = 4294967296;
+
+    // How many numbers may be missing before an event.
+    pub const MISSING: u64 = 16;
+
     pub const NONE: Monitor = Monitor {
         seen: false,
         keeps: Pairs::EMPTY,
         breaks: Pairs::EMPTY,
+        expected: 0,
     };
 }
 
@@ -54,6 +64,61 @@ pub fn advance<'a>(
         return moved(next, leave, enter, count, live, monitor, agree);
     }
     kept(monitor, live, agree)
+}
+
+// So many events that were not received: nothing is seen of them, and they restart nothing, so both sides move.
+pub fn catch_up<'a>(
+    label: &[u16],
+    next: &[u64],
+    leave: &'a [u64; 1024],
+    enter: &'a [u64; 1024],
+    count: usize,
+    live: &[u64; 64],
+    monitor: Monitor,
+    missing: u64,
+) -> Monitor
+    requires { ⌜ (length (now label) ≤ 64) × (count ≤ 64) ⌝ }
+    ensures { λ r. ⌜ r ≡ caughtUpBy (now (label .entry)) (now (next .entry)) (now (leave .entry)) (now (enter .entry)) count (now (live .entry)) monitor missing ⌝ }
+{
+    let mut now = monitor;
+    for k in 0..missing {
+        let agree = labels::agreeing(label, 0, 0);
+        now = moved(next, leave, enter, count, live, now, agree);
+    }
+    now
+}
+
+// An event, behind so many that are missing before it. Mostly none is, and then nothing but the event is looked at.
+pub fn take<'a>(
+    label: &[u16],
+    next: &[u64],
+    leave: &'a [u64; 1024],
+    enter: &'a [u64; 1024],
+    holds: &'a [u64; 64],
+    count: usize,
+    live: &[u64; 64],
+    monitor: Monitor,
+    gap: u64,
+    event: Event,
+) -> Monitor
+    requires { ⌜ (length (now label) ≤ 64) × (count ≤ 64) ⌝ }
+    ensures { λ r. ⌜ r ≡ cameBy (now (label .entry)) (now (next .entry)) (now (leave .entry)) (now (enter .entry)) (now (holds .entry)) count (now (live .entry)) monitor gap event ⌝ }
+{
+    if gap == 0 {
+        return advance(
+            label,
+            next,
+            leave,
+            enter,
+            holds,
+            count,
+            live,
+            monitor,
+            event,
+        );
+    }
+    let now = catch_up(label, next, leave, enter, count, live, monitor, gap);
+    advance(label, next, leave, enter, holds, count, live, now, event)
 }
 
 // What the lamp shows. Both sets' states are united to one word, and its ones are counted at once.

@@ -26,5 +26,6 @@ pub fn opened(start: u64, holds: &[u64; 64], live: &[u64; 64]) -> Monitor
         seen: false,
         keeps,
         breaks,
+        expected: 0,
     }
 }

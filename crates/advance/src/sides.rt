@@ -28,6 +28,7 @@ pub fn kept(monitor: Monitor, live: &[u64; 64], agree: u64) -> Monitor
         seen: true,
         keeps,
         breaks,
+        expected: monitor.expected,
     }
 }
 
@@ -58,6 +59,7 @@ pub fn moved<'a>(
         seen: true,
         keeps,
         breaks,
+        expected: monitor.expected,
     }
 }
 
@@ -83,5 +85,6 @@ pub fn restarted<'a>(
         seen: true,
         keeps: split(&reached.words, agree, holds, true),
         breaks: split(&reached.words, agree, holds, false),
+        expected: monitor.expected,
     }
 }

@@ -1,7 +1,8 @@
 -- What the calls on a monitor answer: 01's checks in their order, and behind them the monitor of `model`, which its theorems speak of.
-use Prim.Native.Nat.{ℕ}
+use Prim.Native.Nat.{ℕ, _+_, _^_}
 use mathlib.Core.Bool.{Bool, false, _&&_, not}
-use mathlib.Core.List.{List}
+use mathlib.Core.List.{List, foldl}
+use lib.Dec.{leb}
 use lib.ListN.{replicate}
 use Rattle.meaning.specs.Formula.{Formula}
 use Rattle.meaning.specs.Run as run
@@ -9,7 +10,7 @@ use Rattle.pairs.specs.declared.Pairs.{Pairs}
 use Rattle.pairs.specs.Sets.{emptyOf}
 use Rattle.model.specs.Monitor as model
 use Rattle.model.specs.Checks.{pairsOk, eventOk}
-use Rattle.answers.specs.declared.Kind.the-variants.{Value, IllegalEvent}
+use Rattle.answers.specs.declared.Kind.the-variants.{Value, IllegalEvent, Number as NumberKind}
 use Rattle.answers.specs.declared.Answer.{Answer}
 use Rattle.answers.specs.declared.Answer.the-variants as Answers
 use Rattle.answers.specs.declared.Outcome.{Outcome}
@@ -24,12 +25,13 @@ use Rattle.log.specs.declared.Event.{Event}
 use Rattle.log.specs.Legal.{seenOf}
 use Rattle.checks.specs.Checks.{inputOutcome}
 use Rattle.advance.specs.declared.Monitor.{Monitor}
-use Rattle.advance.specs.Held.{modelOf, monitorOf, eventOf}
+use Rattle.advance.specs.Held.{modelOf, monitorOf}
+use Rattle.advance.specs.Numbers.{numberOf, brings, inTurn}
 use Rattle.monitor.specs.declared.Watched.{Watched}
 
 -- the monitor beside a refusal to open one
 abbrev pub noMonitor : Monitor
-noMonitor = record { seen = false; keeps = record { words = replicate 64 0 }; breaks = record { words = replicate 64 0 } }
+noMonitor = record { seen = false; keeps = record { words = replicate 64 0 }; breaks = record { words = replicate 64 0 }; expected = 0 }
 
 -- ---- the lamp
 
@@ -37,10 +39,10 @@ noMonitor = record { seen = false; keeps = record { words = replicate 64 0 }; br
 abbrev pub lampOf : model.Monitor → Answer
 lampOf m = shown (not (emptyOf (m .keeps))) (not (emptyOf (m .breaks))) (model.left m)
 
--- with a refusal the monitor handed in, else the new one and its lamp
-abbrev pub watched : Outcome → Monitor → model.Monitor → Watched
-watched Accepted old new = record { answer = lampOf new; monitor = monitorOf new }
-watched (Refused r) old new = record { answer = Answers.Refused r; monitor = old }
+-- with a refusal the monitor handed in, else the new one, which expects a number, and its lamp
+abbrev pub watched : Outcome → Monitor → ℕ → model.Monitor → Watched
+watched Accepted old expected new = record { answer = lampOf new; monitor = monitorOf expected new }
+watched (Refused r) old expected new = record { answer = Answers.Refused r; monitor = old }
 
 abbrev pub lit : Outcome → model.Monitor → Answer
 lit Accepted m = lampOf m
@@ -63,14 +65,21 @@ module _ (p : Plant) (fair label next : List ℕ) (rule : Rule) where
   fits s = pairsOk table formula (s .words)
 
   unfoldable pub openCall : Pairs → Watched
-  openCall live = watched (checkedOf (fits live)) noMonitor (model.opening table formula (live .words))
+  openCall live = watched (checkedOf (fits live)) noMonitor 0 (model.opening table formula (live .words))
+
+  -- and of a monitor for both its sets, and that it expects a number or says that they are used up
+  abbrev pub monitorFits : Monitor → Bool
+  monitorFits m = fits (m .keeps) && (fits (m .breaks) && leb (m .expected) (2 ^ 32))
 
   unfoldable pub lookCall : Monitor → Answer
-  lookCall m = lit (checkedOf (fits (m .keeps) && fits (m .breaks))) (modelOf m)
+  lookCall m = lit (checkedOf (monitorFits m)) (modelOf m)
 
-  -- 10 comes last
+  -- 10 comes behind these, and 16 last
   abbrev pub stepChecked : Pairs → Monitor → Event → Outcome
-  stepChecked live m e = andThen (checkedOf (fits live && (fits (m .keeps) && fits (m .breaks)))) (unless (eventOk table (seenOf e)) IllegalEvent)
+  stepChecked live m e =
+      andThen (checkedOf (fits live && monitorFits m)) (andThen (unless (eventOk table (seenOf e)) IllegalEvent) (unless (inTurn (m .seen) (m .expected) (numberOf (e .num) (m .expected))) NumberKind))
 
+  -- all that the event brings, one after the other; behind it the next number is expected
   unfoldable pub stepCall : Pairs → Monitor → Event → Watched
-  stepCall live m e = watched (stepChecked live m e) m (model.stepOf table formula (live .words) (modelOf m) (eventOf e))
+  stepCall live m e =
+      watched (stepChecked live m e) m (numberOf (e .num) (m .expected) + 1) (foldl (model.stepOf table formula (live .words)) (modelOf m) (brings (m .seen) (m .expected) e))

@@ -2,19 +2,19 @@
 use Prim.Native.Nat.{ℕ, _-_, _^_}
 use mathlib.Core.Bool.{Bool, _&&_}
 use mathlib.Core.List.{List}
+use lib.Dec.{leb}
 use Rattle.meaning.specs.Formula.{parts}
 use Rattle.pairs.specs.declared.Pairs.{Pairs}
 use Rattle.pairs.specs.Sets.{joinOf}
-use Rattle.answers.specs.declared.Kind.the-variants.{IllegalEvent}
 use Rattle.answers.specs.declared.Outcome.{Outcome}
-use Rattle.answers.specs.Chain.{andThen, unless}
+use Rattle.answers.specs.Chain.{andThen}
 use Rattle.plant.specs.declared.Plant.{Plant}
 use Rattle.syntax.specs.declared.Rule.{Rule}
 use Rattle.syntax.specs.Value.{formulaOf}
 use Rattle.log.specs.declared.Event.{Event}
-use Rattle.log.specs.Legal.{legalOf}
 use Rattle.checks.specs.Checks.{pairsFit}
 use Rattle.advance.specs.declared.Monitor.{Monitor}
+use Rattle.advance.specs.Numbers.{eventOutcome}
 use Rattle.monitor.specs.Calls.{checkedOf}
 
 module _ (p : Plant) (fair label next : List ℕ) (rule : Rule) where
@@ -22,10 +22,10 @@ module _ (p : Plant) (fair label next : List ℕ) (rule : Rule) where
   abbrev pub fitOf : List ℕ → Bool
   fitOf l = pairsFit l (2 ^ p .states - 1) (2 ^ parts (formulaOf rule))
 
-  -- 1, 2, and 9 with two sets of pairs
-  unfoldable pub heldOf : List ℕ → List ℕ → Outcome
-  heldOf one two = checkedOf p fair label next rule (fitOf one && fitOf two)
+  -- 1, 2, and 9 with two sets of pairs and a number
+  unfoldable pub heldOf : List ℕ → List ℕ → ℕ → Outcome
+  heldOf one two expected = checkedOf p fair label next rule (fitOf one && (fitOf two && leb expected (2 ^ 32)))
 
-  -- and 10; the two sides in one pass
+  -- and 10 and 16; the two sides in one pass
   unfoldable pub caughtOf : Pairs → Monitor → Event → Outcome
-  caughtOf live m e = andThen (heldOf (live .words) (joinOf (m .keeps .words) (m .breaks .words))) (unless (legalOf e (p .props)) IllegalEvent)
+  caughtOf live m e = andThen (heldOf (live .words) (joinOf (m .keeps .words) (m .breaks .words)) (m .expected)) (eventOutcome e (p .props) (m .seen) (m .expected))

@@ -2,6 +2,7 @@
 mod single;
 
 pub use advance::Monitor;
+use advance::numbers::check_event;
 use answers::Answer;
 use answers::Kind;
 use answers::Outcome;
@@ -28,7 +29,7 @@ fn lamp(monitor: Monitor) -> Answer
     Answer::Shown(advance::lamp(monitor))
 }
 
-// Checks 1, 2 and 9: the table, the rule, and two sets of pairs.
+// Checks 1, 2 and 9: the table, the rule, two sets of pairs, and the number expected.
 fn check_held(
     plant: Plant,
     fair: &[u64],
@@ -37,8 +38,9 @@ fn check_held(
     rule: Rule,
     one: &[u64; 64],
     two: &[u64; 64],
+    expected: u64,
 ) -> Outcome
-    ensures { λ r. ⌜ r ≡ heldOf plant (now (fair .entry)) (now (label .entry)) (now (next .entry)) rule (now (one .entry)) (now (two .entry)) ⌝ }
+    ensures { λ r. ⌜ r ≡ heldOf plant (now (fair .entry)) (now (label .entry)) (now (next .entry)) rule (now (one .entry)) (now (two .entry)) expected ⌝ }
 {
     let outcome = checks::check_input(plant, fair, label, next, rule);
     match outcome {
@@ -47,7 +49,7 @@ fn check_held(
             let states = words::all(plant.states);
             let count = moves::valuations(syntax::parts_of(rule));
             let fits = checks::pairs_fit(one, states, count)
-                & checks::pairs_fit(two, states, count);
+                & (checks::pairs_fit(two, states, count) & (expected <= Monitor::USED_UP));
             if fits {
                 return Outcome::Accepted;
             }
@@ -67,7 +69,7 @@ pub fn open(
 ) -> Watched
     ensures { λ r. ⌜ r ≡ openCall plant (now (fair .entry)) (now (label .entry)) (now (next .entry)) rule live ⌝ }
 {
-    let outcome = check_held(plant, fair, label, next, rule, &live.words, &live.words);
+    let outcome = check_held(plant, fair, label, next, rule, &live.words, &live.words, 0);
     match outcome {
         Outcome::Refused(refusal) => Watched {
             answer: Answer::Refused(refusal),
@@ -96,14 +98,23 @@ pub fn look(
 {
     let keeps = monitor.keeps;
     let breaks = monitor.breaks;
-    let outcome = check_held(plant, fair, label, next, rule, &keeps.words, &breaks.words);
+    let outcome = check_held(
+        plant,
+        fair,
+        label,
+        next,
+        rule,
+        &keeps.words,
+        &breaks.words,
+        monitor.expected,
+    );
     match outcome {
         Outcome::Refused(refusal) => Answer::Refused(refusal),
         Outcome::Accepted => lamp(monitor),
     }
 }
 
-// Checks 1, 2, 9 and 10.
+// Checks 1, 2, 9, 10 and 16.
 fn check_step(
     plant: Plant,
     fair: &[u64],
@@ -119,19 +130,23 @@ fn check_step(
     let keeps = monitor.keeps;
     let breaks = monitor.breaks;
     let both = keeps.join(breaks);
-    let outcome = check_held(plant, fair, label, next, rule, &live.words, &both.words);
+    let outcome = check_held(
+        plant,
+        fair,
+        label,
+        next,
+        rule,
+        &live.words,
+        &both.words,
+        monitor.expected,
+    );
     match outcome {
         Outcome::Refused(refusal) => Outcome::Refused(refusal),
-        Outcome::Accepted => {
-            if log::is_legal(event, plant.props) {
-                return Outcome::Accepted;
-            }
-            Outcome::Refused(Refusal::at(Kind::IllegalEvent, 0))
-        }
+        Outcome::Accepted => check_event(event, plant.props, monitor.seen, monitor.expected),
     }
 }
 
-// One event more. The table and the rule are worked out anew, so a step needs nothing but what it is handed.
+// One event more, behind those whose numbers are missing before it. The table and the rule are worked out anew, so a step needs nothing but what it is handed.
 pub fn step(
     plant: Plant,
     fair: &[u64],

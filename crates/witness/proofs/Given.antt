@@ -1,7 +1,7 @@
 -- What the checks give the code behind them, and what the answers are.
 use Prim.Native.Nat.{ℕ, _≤_, _<_}
 use mathlib.Core.Path.{_≡_, refl, sym, ap, subst, _∙_}
-use mathlib.Core.Bool.{Bool, true, false, So, _&&_, not}
+use mathlib.Core.Bool.{Bool, true, false, So, not}
 use mathlib.Core.List.{List}
 use lib.Dec.{ltb}
 use lib.ListN.{length}
@@ -11,7 +11,6 @@ use Rattle.meaning.specs.Run as run
 use Rattle.graphs.specs.Fair.{Fair}
 use Rattle.pairs.specs.Sets.{emptyOf}
 use Rattle.model.specs.Monitor as model
-use Rattle.model.specs.Checks.{pairsOk}
 use Rattle.model.specs.Sets.{nodesOf}
 use Rattle.model.specs.LiveSet.{meetOf, liveSet}
 use Rattle.model.specs.Lives.{live-set}
@@ -40,7 +39,7 @@ use Rattle.live.specs.LiveRight.{live-is}
 use Rattle.live.proofs.Given.{live-set-is}
 use Rattle.advance.specs.declared.Monitor.{Monitor}
 use Rattle.advance.specs.Held.{modelOf}
-use Rattle.monitor.specs.Calls.{lit, checkedOf, lookCall}
+use Rattle.monitor.specs.Calls.{lit, checkedOf, monitorFits, lookCall}
 use Rattle.walk.specs.declared.Lengths.{Lengths}
 use Rattle.walk.specs.Legs.{Walked}
 use Rattle.witness.specs.declared.Witnessed.{Witnessed}
@@ -61,8 +60,7 @@ told-lit (Refused r) m = refl
 module _ (p : Plant) (fair label next : List ℕ) (rule : Rule) (m : Monitor) where
   -- 1, 2 and 9
   abbrev fine : Bool
-  fine = pairsOk (table p fair label next rule m) (formula p fair label next rule m) (m .keeps .words)
-      && pairsOk (table p fair label next rule m) (formula p fair label next rule m) (m .breaks .words)
+  fine = monitorFits p fair label next rule m
 
   abbrev looked : Outcome
   looked = checkedOf p fair label next rule fine

@@ -1,7 +1,7 @@
 -- What the call answers and writes: 01's checks in their order, and behind them a witness.
 use Prim.Native.Nat.{ℕ}
 use mathlib.Core.Path.{_≡_}
-use mathlib.Core.Bool.{Bool, _&&_, not}
+use mathlib.Core.Bool.{Bool, not}
 use mathlib.Core.List.{List}
 use lib.Dec.{ltb}
 use lib.ListN.{length}
@@ -9,7 +9,6 @@ use Rattle.meaning.specs.Formula.{Formula}
 use Rattle.meaning.specs.Run as run
 use Rattle.meaning.specs.Limits.{witnessRoom}
 use Rattle.model.specs.Monitor as model
-use Rattle.model.specs.Checks.{pairsOk}
 use Rattle.model.specs.Witness.{hasLive}
 use Rattle.answers.specs.declared.Kind.the-variants.{Room, NoPair}
 use Rattle.answers.specs.declared.Outcome.{Outcome}
@@ -21,7 +20,7 @@ use Rattle.syntax.specs.declared.Rule.{Rule}
 use Rattle.syntax.specs.Value.{formulaOf}
 use Rattle.advance.specs.declared.Monitor.{Monitor}
 use Rattle.advance.specs.Held.{modelOf}
-use Rattle.monitor.specs.Calls.{checkedOf}
+use Rattle.monitor.specs.Calls.{checkedOf, monitorFits}
 use Rattle.walk.specs.declared.Lengths.{Lengths}
 use Rattle.walk.specs.Shows.{Shows}
 use Rattle.witness.specs.declared.Witnessed.{Witnessed}
@@ -46,8 +45,7 @@ module _ (p : Plant) (fair label next : List ℕ) (rule : Rule) (m : Monitor) wh
   -- 1, 2, 9, and 11
   unfoldable pub askedOf : ℕ → Outcome
   askedOf room =
-      andThen (checkedOf p fair label next rule (pairsOk table formula (m .keeps .words) && pairsOk table formula (m .breaks .words)))
-      (unless (not (ltb room witnessRoom)) Room)
+      andThen (checkedOf p fair label next rule (monitorFits p fair label next rule m)) (unless (not (ltb room witnessRoom)) Room)
 
   -- 13 comes last
   unfoldable pub witnessOutcome : Bool → ℕ → Outcome

@@ -36,7 +36,7 @@ returns c =
     let i = accepted (a .plant) (a .fair .now) (a .label .now) (a .next .now) (a .rule) (full (a .rule .nodes) (start .good .1 .1 .1 .1 .0 .1 .1 .1 .0)) (told .check-input .ensures) (c .before .before .before .before .before .before .enum-told .given .1) in
     test-passes Value (c .if1 .taken) (fits-are (a .plant) (a .fair .now) (a .label .now) (a .next .now) (a .rule) i _ _
     (c .before .before .before .before .parts-of .ensures) (c .before .before .before .before .before .all .ensures) (c .before .before .before .valuations .ensures .0)
-    (c .before .before .pairs-fit .ensures) (c .before .pairs-fit2 .ensures))
+    (c .before .before .pairs-fit .ensures) (c .before .pairs-fit2 .ensures) (a .expected))
     ∙ first-passes _ (told .check-input .ensures) (c .before .before .before .before .before .before .enum-told .given .1)
 
 returns-2 : tie.Need-returns-2
@@ -52,7 +52,7 @@ returns-3 c =
     let i = accepted (a .plant) (a .fair .now) (a .label .now) (a .next .now) (a .rule) (full (a .rule .nodes) (start .good .1 .1 .1 .1 .0 .1 .1 .1 .0)) (told .check-input .ensures) (c .before .before .before .before .before .before .before .enum-told .given .1) in
     test-fails Value (c .before .if1 .left) (fits-are (a .plant) (a .fair .now) (a .label .now) (a .next .now) (a .rule) i _ _
     (c .before .before .before .before .before .parts-of .ensures) (c .before .before .before .before .before .before .all .ensures) (c .before .before .before .before .valuations .ensures .0)
-    (c .before .before .before .pairs-fit .ensures) (c .before .before .pairs-fit2 .ensures)) (c .at .ensures)
+    (c .before .before .before .pairs-fit .ensures) (c .before .before .pairs-fit2 .ensures) (a .expected)) (c .at .ensures)
     ∙ first-passes _ (told .check-input .ensures) (c .before .before .before .before .before .before .before .enum-told .given .1)
 
 pub check-held-spec : {M : Type 1} → statement M

@@ -3,7 +3,7 @@ use borrow.Author.Needs.{needs}
 use Rattle.syntax.proofs.Held.{full}
 use Rattle.monitor.proofs.Words.{words-of}
 use Rattle.checks.proofs.Given.{ready}
-use Rattle.monitor.proofs.Given.{step-input, not-stepped, is-stepped}
+use Rattle.monitor.proofs.Given.{step-given, not-stepped, is-stepped}
 use Rattle.monitor.proofs.step.Statement.{statement}
 use Rattle.monitor.proofs.step.Tie as tie
 
@@ -12,10 +12,10 @@ stepped-requires c κs =
     let told = c .before .before in
     let start = told .before .before .before .before in
     let a = start .args in
-    ready
-    (step-input (a .plant) (a .fair .now) (a .label .now) (a .next .now) (a .rule) (full (a .rule .nodes) (start .good .1 .1 .1 .1 .0 .1 .1 .1 .0)) (a .live) (a .monitor) (a .event)
+    let given = step-given (a .plant) (a .fair .now) (a .label .now) (a .next .now) (a .rule) (full (a .rule .nodes) (start .good .1 .1 .1 .1 .0 .1 .1 .1 .0)) (a .live) (a .monitor) (a .event)
     (words-of (a .live .words) (start .good .1 .1 .1 .1 .1 .0 .1 .1 .0)) (words-of (a .monitor .keeps .words) (start .good .1 .1 .1 .1 .1 .1 .0 .1 .1 .1 .0 .1 .1 .0)) (words-of (a .monitor .breaks .words) (start .good .1 .1 .1 .1 .1 .1 .0 .1 .1 .1 .1 .0 .1 .1 .0))
-    (told .check-step .ensures) (c .enum-told .given .1))
+    (told .check-step .ensures) (c .enum-told .given .1) in
+    (ready (given .0), given .1)
 
 returns : tie.Need-returns
 returns c =

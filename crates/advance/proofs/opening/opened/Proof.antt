@@ -8,7 +8,7 @@ use Rattle.advance.proofs.opening.opened.Tie as tie
 
 returns : tie.Need-returns
 unfolding openedBy
-returns c = ap₂ (sidesOf false) (c .before .split .ensures) (c .split2 .ensures)
+returns c = ap₂ (sidesOf 0 false) (c .before .split .ensures) (c .split2 .ensures)
 
 pub opened-spec : {M : Type 1} → statement M
 opened-spec = tie.close (tie.spec (λ c κs. search needs) (λ c κs. search needs) returns)

@@ -8,7 +8,7 @@ use Rattle.advance.proofs.sides.kept.Tie as tie
 
 returns : tie.Need-returns
 unfolding keptOf
-returns c = ap₂ (sidesOf true) (c .before .before .before .cut .ensures) (c .cut2 .ensures)
+returns c = ap₂ (sidesOf _ true) (c .before .before .before .cut .ensures) (c .cut2 .ensures)
 
 pub kept-spec : {M : Type 1} → statement M
 kept-spec = tie.close (tie.spec (λ c κs. search needs) (λ c κs. search needs) returns)

@@ -8,7 +8,7 @@ use Rattle.advance.proofs.sides.moved.Tie as tie
 
 returns : tie.Need-returns
 unfolding movedBy
-returns c = ap₂ (sidesOf true) (c .before .before .before .image .ensures) (c .image2 .ensures)
+returns c = ap₂ (sidesOf _ true) (c .before .before .before .image .ensures) (c .image2 .ensures)
 
 pub moved-spec : {M : Type 1} → statement M
 moved-spec = tie.close (tie.spec (λ c κs. search needs) (λ c κs. search needs) returns)

@@ -1,18 +1,15 @@
--- `stepped`: by whether an event came, and whether it is a restart. Assumes nothing.
+-- `stepped`: where the event leads, from a monitor that expects the number behind it. Assumes nothing.
+use mathlib.Core.Path.{_∙_}
 use borrow.Author.Needs.{needs}
-use Rattle.advance.specs.SidesRight.{advanced-new, advanced-next, advanced-first}
+use Rattle.advance.specs.Numbers.{first-none}
 use Rattle.monitor.proofs.single.stepped.Statement.{statement}
 use Rattle.monitor.proofs.single.stepped.Tie as tie
 
+came-requires : tie.Need-came-requires
+came-requires c κs = (c .before .before .before .before .pre .0, λ first. c .missing .ensures ∙ first-none _ _ _ first)
+
 returns : tie.Need-returns
-returns c = advanced-new _ _ _ _ _ _ _ _ _ (c .before .before .before .agreeing .ensures) (c .before .before .if1 .taken) (c .before .if2 .taken) (c .restarted .ensures)
-
-returns-2 : tie.Need-returns-2
-returns-2 c = advanced-next _ _ _ _ _ _ _ _ _ (c .before .before .before .agreeing .ensures) (c .before .before .if1 .taken) (c .before .if2 .left) (c .moved .ensures)
-
-returns-3 : tie.Need-returns-3
-returns-3 c = advanced-first _ _ _ _ _ _ _ _ _ (c .before .before .before .before .agreeing .ensures) (c .before .before .before .if1 .left) (c .kept .ensures)
+returns c = rw (c .before .missing .ensures, c .before .before .number-of .ensures) at (c .came .ensures)
 
 pub stepped-spec : {M : Type 1} → statement M
-stepped-spec =
-    tie.close (tie.spec (λ c κs. search needs) (λ c κs. search needs) returns (λ c κs. search needs) returns-2 (λ c κs. search needs) returns-3)
+stepped-spec = tie.close (tie.spec (λ c κs. search needs) (λ c κs. search needs) (λ c. search needs) came-requires returns)
