@@ -2,7 +2,6 @@
 use Prim.Native.Nat.{ℕ, zero, suc, _+_}
 use native.Mathlib.Nat.{zero-add, suc-add}
 use mathlib.Core.Path.{_≡_, refl, sym, ap, subst, _∙_}
-use mathlib.Core.Bool.{Bool, true, false}
 use mathlib.Core.List.{List}
 use lib.ListN.{length}
 use Rattle.pairs.specs.declared.Pairs.{Pairs}
@@ -16,7 +15,6 @@ use Rattle.answers.specs.declared.Outcome.the-variants.{Accepted, Refused}
 use Rattle.plant.specs.declared.Plant.{Plant}
 use Rattle.syntax.specs.declared.Rule.{Rule}
 use Rattle.log.specs.declared.Event.{Event}
-use Rattle.log.specs.Legal.{legalOf}
 use Rattle.text.specs.Number.{widthOf}
 use Rattle.log.specs.Read.{eventAt, wholeLines}
 use Rattle.checks.specs.Input.{Input, input-accepted}
@@ -25,22 +23,22 @@ use Rattle.truth.specs.Ready.{Ready}
 use Rattle.ways.specs.declared.Ways.{Ways}
 use Rattle.ways.specs.Ways.{waysOf}
 use Rattle.advance.specs.declared.Monitor.{Monitor}
-use Rattle.advance.specs.Held.{modelOf, monitorOf, eventOf}
-use Rattle.advance.specs.Sides.{advancedIn}
-use Rattle.advance.specs.SidesRight.{advanced-right}
+use Rattle.advance.specs.Held.{modelOf, monitorOf}
+use Rattle.advance.specs.Numbers.{eventOutcome}
+use Rattle.advance.specs.Sides.{takenIn}
+use Rattle.advance.specs.SidesRight.{taken-right}
 use Rattle.monitor.specs.declared.Watched.{Watched}
-use Rattle.monitor.specs.Calls.{openCall, stepCall}
-use Rattle.watching.specs.Watching.{T, f, Held, live, live-fits, checks-pass, stays-held, open-held, full}
-use Rattle.watching.specs.Watching as watching
+use Rattle.monitor.specs.Calls.{watched, openCall, stepCall}
+use Rattle.watching.specs.Watching.{T, f, Held, brought, live, live-fits, checks-pass, stays-held, open-held, full}
 use Rattle.course.specs.declared.Went.{Went}
-use Rattle.course.specs.Course.{Course, takes, goOn, courseTo, courseOf, turnOf, turn, courseIn, Followed, Fitting}
+use Rattle.course.specs.Course.{Course, takes, numberIn, goOn, courseTo, courseOf, turnOf, turn, courseIn, Followed, Fitting}
 
 -- ---- whatever a step is
 
 -- an answer tells nothing of the monitor
-takes-monitor : (c : Course) (w : Watched) (a : Answer) → takes c w a .went .monitor ≡ w .monitor
-takes-monitor c w (Answers.Shown l) = refl
-takes-monitor c w (Answers.Refused r) = refl
+takes-monitor : (c : Course) (n : ℕ) (w : Watched) (a : Answer) → takes c n w a .went .monitor ≡ w .monitor
+takes-monitor c n w (Answers.Shown l) = refl
+takes-monitor c n w (Answers.Refused r) = refl
 
 module _ (step : Monitor → Event → Watched) (m : Monitor) (event : ℕ → Event) where
   -- behind a refusal nothing more happens
@@ -59,17 +57,18 @@ module _ (p : Plant) (fair label next : List ℕ) (rule : Rule) (given : Input p
 
   -- a turn of the loop is the public step
   pub turn-is : (m : Monitor) → Held p fair label next rule m → (e : Event) → turn p label next (waysOf label rule) live m e ≡ calls m e
-  turn-is m held e = ap (turnOf (legalOf e (p .props)) m) new ∙ shown (legalOf e (p .props)) ∙ sym (checks-pass p fair label next rule given live fits m held e)
+  turn-is m held e =
+      ap (turnOf (eventOutcome e (p .props) (m .seen) (m .expected)) m) new ∙ shown (eventOutcome e (p .props) (m .seen) (m .expected)) ∙ sym (checks-pass p fair label next rule given live fits m held e)
     where
       after : model.Monitor
-      after = model.stepOf (T p fair label next rule) (f p fair label next rule) (live .words) (modelOf m) (eventOf e)
+      after = brought p fair label next rule (live .words) (modelOf m) (m .expected) e
 
-      new : advancedIn label next (waysOf label rule) (live .words) m e ≡ monitorOf after
-      new = advanced-right (T p fair label next rule) (f p fair label next rule) (given .table) (given .few) rule (right given) (live .words) fits m held e
+      new : takenIn label next (waysOf label rule) (live .words) m e ≡ monitorOf (numberIn m e + 1) after
+      new = taken-right (T p fair label next rule) (f p fair label next rule) (given .table) (given .few) rule (right given) (live .words) fits m (held .sets) e
 
-      shown : (b : Bool) → turnOf b m (monitorOf after) ≡ watching.takes b m after
-      shown true = refl
-      shown false = refl
+      shown : (o : Outcome) → turnOf o m (monitorOf (numberIn m e + 1) after) ≡ watched o m (numberIn m e + 1) after
+      shown Accepted = refl
+      shown (Refused r) = refl
 
   module _ (m : Monitor) (held : Held p fair label next rule m) (event : ℕ → Event) where
     -- the monitor stays one of the table and the rule
@@ -92,7 +91,7 @@ module _ (p : Plant) (fair label next : List ℕ) (rule : Rule) (given : Input p
       where
         by : (c : Course) → Held p fair label next rule (c .went .monitor) → (o : Outcome)
             → goOn (turn p label next (waysOf label rule) live) c (event n) o ≡ goOn calls c (event n) o
-        by c h Accepted = ap (λ (w : Watched). takes c w (w .answer)) (turn-is (c .went .monitor) h (event n))
+        by c h Accepted = ap (λ (w : Watched). takes c (numberIn (c .went .monitor) (event n)) w (w .answer)) (turn-is (c .went .monitor) h (event n))
         by c h (Refused r) = refl
 
 -- ---- for code: by what the rule says, which was worked out
@@ -104,10 +103,10 @@ module _ (p : Plant) (fair label next : List ℕ) (rule : Rule) (full : length (
   pub fitting-ready : Ready label rule
   fitting-ready = ready given-by
 
-  pub followed : {w : Ways} → w ≡ waysOf label rule → (text : List ℕ) {verdicts₀ lefts₀ verdicts lefts : List ℕ} {r : Went}
-      → Followed (courseIn p label next w live m text) verdicts₀ lefts₀ verdicts lefts r → Followed (courseOf p fair label next rule live m text) verdicts₀ lefts₀ verdicts lefts r
-  followed e text {verdicts₀} {lefts₀} {verdicts} {lefts} {r} h =
-      subst (λ (c : Course). Followed c verdicts₀ lefts₀ verdicts lefts r) (as-called p fair label next rule given-by live (g .lives) m (g .held) (eventAt (widthOf (p .props)) text) (wholeLines (widthOf (p .props)) text)) (rw e at h)
+  pub followed : {w : Ways} → w ≡ waysOf label rule → (text : List ℕ) {verdicts₀ lefts₀ numbers₀ verdicts lefts numbers : List ℕ} {r : Went}
+      → Followed (courseIn p label next w live m text) verdicts₀ lefts₀ numbers₀ verdicts lefts numbers r → Followed (courseOf p fair label next rule live m text) verdicts₀ lefts₀ numbers₀ verdicts lefts numbers r
+  followed e text {verdicts₀} {lefts₀} {numbers₀} {verdicts} {lefts} {numbers} {r} h =
+      subst (λ (c : Course). Followed c verdicts₀ lefts₀ numbers₀ verdicts lefts numbers r) (as-called p fair label next rule given-by live (g .lives) m (g .held) (eventAt (widthOf (p .props)) text) (wholeLines (widthOf (p .props)) text)) (rw e at h)
 
 -- ---- for callers
 

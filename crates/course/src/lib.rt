@@ -1,19 +1,22 @@
 // A whole log, line by line from a monitor on, with what the rule says worked out once and nothing checked but the events: the answers are those
 // of stepping one by one.
 use advance::Monitor;
-use advance::advance;
 use advance::lamp;
-use answers::Kind;
+use advance::numbers::check_event;
+use advance::numbers::missing;
+use advance::numbers::number_of;
+use advance::take;
+use answers::Lamp;
 use answers::Outcome;
-use answers::Refusal;
 use pairs::Pairs;
 use plant::Plant;
 use syntax::Rule;
 use ways::Ways;
 ghost use mathlib.Core.Path.{_≡_};
-ghost use Prim.Native.Nat.{_≤_};
+ghost use Prim.Native.Nat.{_≤_, _%_};
 ghost use lib.ListN.{length, set};
 ghost use Rattle.answers.specs.declared.Outcome.the-variants.{Accepted};
+ghost use Rattle.answers.specs.Paper.{numberOf};
 ghost use Rattle.checks.specs.Checks.{inputOutcome};
 ghost use Rattle.course.specs.Course.{Followed, courseIn, courseOf, Fitting};
 
@@ -33,7 +36,35 @@ fn store(bytes: &mut [u8], at: usize, byte: u8)
     }
 }
 
-// The loop. It stops at the first event that is refused. Of each event taken, the verdict's number and `left` are stored, where there is room.
+// And so is a number.
+fn store_number(numbers: &mut [u64], at: usize, number: u64)
+    ensures { λ _. ⌜ now (numbers .exit) ≡ set (now (numbers .entry)) at number ⌝ }
+{
+    if at < numbers.len() {
+        numbers[at] = number;
+    }
+}
+
+// What is shown of an event: the verdict's number, `left`, and the number that the event took.
+fn note(
+    verdicts: &mut [u8],
+    lefts: &mut [u8],
+    numbers: &mut [u64],
+    at: usize,
+    shown: Lamp,
+    number: u64,
+)
+    ensures verdicts { λ _. ⌜ now (verdicts .exit) ≡ set (now (verdicts .entry)) at (numberOf (shown .verdict)) ⌝ }
+    ensures lefts { λ _. ⌜ now (lefts .exit) ≡ set (now (lefts .entry)) at (shown .left % 256) ⌝ }
+    ensures numbers { λ _. ⌜ now (numbers .exit) ≡ set (now (numbers .entry)) at number ⌝ }
+{
+    let verdict = shown.verdict;
+    store(verdicts, at, verdict.number());
+    store(lefts, at, (shown.left % 256) as u8);
+    store_number(numbers, at, number);
+}
+
+// The loop. It stops at the first event that is refused. Of each event taken, what is shown is stored, where there is room.
 fn turns(
     plant: Plant,
     label: &[u16],
@@ -44,37 +75,45 @@ fn turns(
     text: &[u8],
     verdicts: &mut [u8],
     lefts: &mut [u8],
+    numbers: &mut [u64],
 ) -> Went
     requires { ⌜ (length (now label) ≤ 64) × (ways .count ≤ 64) ⌝ }
     ensures { λ r. ⌜ Followed (courseIn plant (now (label .entry)) (now (next .entry)) ways live monitor (now (text .entry)))
-        (now (verdicts .entry)) (now (lefts .entry)) (now (verdicts .exit)) (now (lefts .exit)) r ⌝ }
+        (now (verdicts .entry)) (now (lefts .entry)) (now (numbers .entry)) (now (verdicts .exit)) (now (lefts .exit)) (now (numbers .exit)) r ⌝ }
 {
     let mut now = monitor;
-    let lines = text.len() / log::line_bytes(plant.props);
+    let lines = text.len() / log::line_bytes(text, plant.props);
     for n in 0..lines {
         let event = log::event_at(text, n, plant.props);
-        if !log::is_legal(event, plant.props) {
-            return Went {
-                outcome: Outcome::Refused(Refusal::at(Kind::IllegalEvent, 0)),
-                done: n,
-                monitor: now,
-            };
+        let outcome = check_event(event, plant.props, now.seen, now.expected);
+        match outcome {
+            Outcome::Refused(refusal) => {
+                return Went {
+                    outcome: Outcome::Refused(refusal),
+                    done: n,
+                    monitor: now,
+                };
+            }
+            Outcome::Accepted => {
+                let num = event.num;
+                let number = number_of(num, now.expected);
+                let gap = missing(now.seen, now.expected, number);
+                now.expected = number + 1;
+                now = take(
+                    label,
+                    next,
+                    &ways.leave,
+                    &ways.enter,
+                    &ways.holds,
+                    ways.count,
+                    &live.words,
+                    now,
+                    gap,
+                    event,
+                );
+                note(verdicts, lefts, numbers, n, lamp(now), number);
+            }
         }
-        now = advance(
-            label,
-            next,
-            &ways.leave,
-            &ways.enter,
-            &ways.holds,
-            ways.count,
-            &live.words,
-            now,
-            event,
-        );
-        let shown = lamp(now);
-        let verdict = shown.verdict;
-        store(verdicts, n, verdict.number());
-        store(lefts, n, (shown.left % 256) as u8);
     }
     Went {
         outcome: Outcome::Accepted,
@@ -95,10 +134,11 @@ pub fn follow(
     text: &[u8],
     verdicts: &mut [u8],
     lefts: &mut [u8],
+    numbers: &mut [u64],
 ) -> Went
     requires { ⌜ Fitting plant (now fair) (now label) (now next) rule live monitor ⌝ }
     ensures { λ r. ⌜ Followed (courseOf plant (now (fair .entry)) (now (label .entry)) (now (next .entry)) rule live monitor (now (text .entry)))
-        (now (verdicts .entry)) (now (lefts .entry)) (now (verdicts .exit)) (now (lefts .exit)) r ⌝ }
+        (now (verdicts .entry)) (now (lefts .entry)) (now (numbers .entry)) (now (verdicts .exit)) (now (lefts .exit)) (now (numbers .exit)) r ⌝ }
 {
     let ways = ways::ways_of(label, rule);
     turns(
@@ -111,5 +151,6 @@ pub fn follow(
         text,
         verdicts,
         lefts,
+        numbers,
     )
 }
