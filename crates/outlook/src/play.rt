@@ -50,6 +50,7 @@ fn from_start(
     let monitor = opened.monitor;
     let mut verdicts = [0u8; 1];
     let mut lefts = [0u8; 1];
+    let mut numbers = [0u64; 1];
     let went = course::follow(
         plant,
         fair,
@@ -61,11 +62,12 @@ fn from_start(
         text,
         &mut verdicts,
         &mut lefts,
+        &mut numbers,
     );
     let outcome = went.outcome;
     let end = went.monitor;
     let done = went.done;
-    let offset = done * log::line_bytes(plant.props);
+    let offset = done * log::line_bytes(text, plant.props);
     End {
         outcome: transcript::at_line(outcome, offset),
         monitor: end,

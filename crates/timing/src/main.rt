@@ -117,7 +117,7 @@ fn run_log(
 ) -> Monitor {
     let opened = monitor::open(plant, fair, label, next, rule, live);
     let mut now = opened.monitor;
-    for n in 0..text.len() / log::line_bytes(plant.props) {
+    for n in 0..text.len() / log::line_bytes(text, plant.props) {
         let event = log::event_at(text, n, plant.props);
         let watched = monitor::step(plant, fair, label, next, rule, live, now, event);
         now = watched.monitor;

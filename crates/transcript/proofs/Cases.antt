@@ -5,7 +5,7 @@ use native.Mathlib.Omega.{arith}
 use mathlib.Core.Path.{_≡_, refl, sym, ap, ap₂, subst, _∙_}
 use mathlib.Core.Bool.{Bool, true, false}
 use mathlib.Core.List.{List, [], _++_, append-nil}
-use lib.ListN.{length, drop, length-map}
+use lib.ListN.{length, getD, drop, length-map}
 use Rattle.answers.specs.declared.Lamp.{Lamp}
 use Rattle.answers.specs.declared.Refusal.{Refusal}
 use Rattle.answers.specs.declared.Answer.the-variants as Answers
@@ -18,8 +18,8 @@ use Rattle.pairs.specs.declared.Pairs.{Pairs}
 use Rattle.plant.specs.declared.Plant.{Plant}
 use Rattle.text.specs.Number.{widthOf}
 use Rattle.text.specs.Lines.{lineStart, start-is, lines-inside}
-use Rattle.log.specs.Line.{lineBytes}
-use Rattle.log.specs.Read.{wholeLines}
+use Rattle.log.specs.Line.{line-fixed}
+use Rattle.log.specs.Read.{isNumbered, bytesIn, wholeLines}
 use Rattle.syntax.specs.declared.Rule.{Rule}
 use Rattle.live.specs.Prepare.{preparedOf}
 use Rattle.live.specs.Promises.{prepare-accepted}
@@ -57,11 +57,11 @@ pub went-stopped : {b lines mid now : List ℕ} {at end last : ℕ} {o : Outcome
 went-stopped offset e f p q = rw (e, ← f) (puts p q)
 
 -- a line's place is within the text
-pub line-inside : (props : ℕ) (text : List ℕ) {bytes k : ℕ} → bytes ≡ lineBytes (widthOf props) → k ≤ wholeLines (widthOf props) text → k * bytes ≤ length text
-line-inside props text {bytes} {k} wide h = lines-inside bytes (length text) k (omega (arith, wide)) (rw wide h)
+pub line-inside : (props : ℕ) (text : List ℕ) {bytes k : ℕ} → bytes ≡ bytesIn (widthOf props) text → k ≤ wholeLines (widthOf props) text → k * bytes ≤ length text
+line-inside props text {bytes} {k} wide h = lines-inside bytes (length text) k (omega (arith, wide, line-fixed (isNumbered text) (widthOf props) .some)) (rw wide h)
 
 -- the lines of a course, from the bytes that the loop stored
-module _ {c : Course} {n : ℕ} (h : Counted n c) {verdicts₀ lefts₀ verdicts lefts : List ℕ} {r : Went} (w : Followed c verdicts₀ lefts₀ verdicts lefts r) where
+module _ {c : Course} {n : ℕ} (h : Counted n c) {verdicts₀ lefts₀ numbers₀ verdicts lefts numbers : List ℕ} {r : Went} (w : Followed c verdicts₀ lefts₀ numbers₀ verdicts lefts numbers r) where
   done-is : r .done ≡ length (c .lamps)
   done-is = ap (λ (x : Went). x .done) (w .went) ∙ h .done
 
@@ -74,31 +74,37 @@ module _ {c : Course} {n : ℕ} (h : Counted n c) {verdicts₀ lefts₀ verdicts
   pub lefts-long : length lefts ≡ length lefts₀
   lefts-long = ap length (w .lefts-are) ∙ laid-length (leftBytes (c .lamps)) lefts₀
 
-  module _ (v : n ≤ length verdicts₀) (l : n ≤ length lefts₀) where
+  pub numbers-long : length numbers ≡ length numbers₀
+  numbers-long = ap length (w .numbers-are) ∙ laid-length (c .numbers) numbers₀
+
+  module _ (v : n ≤ length verdicts₀) (l : n ≤ length lefts₀) (k : n ≤ length numbers₀) where
     verdicts-over : verdicts ≡ verdictBytes (c .lamps) ++ drop (length (verdictBytes (c .lamps))) verdicts₀
     verdicts-over = w .verdicts-are ∙ laid-over (verdictBytes (c .lamps)) verdicts₀ (rw length-map (le-trans (h .few) v))
 
     lefts-over : lefts ≡ leftBytes (c .lamps) ++ drop (length (leftBytes (c .lamps))) lefts₀
     lefts-over = w .lefts-are ∙ laid-over (leftBytes (c .lamps)) lefts₀ (rw length-map (le-trans (h .few) l))
 
-    lines : byteLines (r .done) verdicts lefts ≡ linesText (c .lamps)
-    lines = rw (done-is, verdicts-over, lefts-over) (lines-are (c .lamps) (h .lefts) _ _)
+    numbers-over : numbers ≡ c .numbers ++ drop (length (c .numbers)) numbers₀
+    numbers-over = w .numbers-are ∙ laid-over (c .numbers) numbers₀ (rw (h .named) (le-trans (h .few) k))
 
-    pub course-said : (props : ℕ) {bytes : ℕ} → bytes ≡ lineBytes (widthOf props) → {b now : List ℕ} {at end : ℕ}
-        → Put b at (byteLines (r .done) verdicts lefts ++ stopText (r .outcome) (r .done * bytes)) now end → Put b at (behindText props c) now end
-    course-said props wide {b} {now} {at} {end} p =
+    lines : byteLines (r .done) verdicts lefts numbers ≡ linesText (λ j. getD (c .numbers) j 0) (c .lamps)
+    lines = rw (done-is, verdicts-over, lefts-over, numbers-over) (lines-are (c .lamps) (h .lefts) (c .numbers) (h .named) _ _ _)
+
+    pub course-said : {wide bytes : ℕ} → bytes ≡ wide → {b now : List ℕ} {at end : ℕ}
+        → Put b at (byteLines (r .done) verdicts lefts numbers ++ stopText (r .outcome) (r .done * bytes)) now end → Put b at (behindText wide c) now end
+    course-said {wide} is {b} {now} {at} {end} p =
         subst (λ (s : List ℕ). Put b at s now end)
-        (ap₂ (λ (s : List ℕ) (x : Went). s ++ stopText (x .outcome) (lineStart (lineBytes (widthOf props)) (x .done))) lines (w .went))
-        (rw (wide, ← start-is (lineBytes (widthOf props)) (r .done)) at p)
+        (ap₂ (λ (s : List ℕ) (x : Went). s ++ stopText (x .outcome) (lineStart wide (x .done))) lines (w .went))
+        (rw (is, ← start-is wide (r .done)) at p)
 
 -- what an opened monitor shows, and what follows
-module _ {b now : List ℕ} {end : ℕ} (props : ℕ) (F : Monitor → Course) {w x : Watched} (e : w ≡ x) where
-  pub not-opened : {r : Refusal} → w .answer ≡ Answers.Refused r → Put b 0 (refusedText r) now end → Put b 0 (openedText props (x .answer) (F (x .monitor))) now end
-  not-opened f h = subst (λ (y : Watched). Put b 0 (openedText props (y .answer) (F (y .monitor))) now end) e (rw f h)
+module _ {b now : List ℕ} {end : ℕ} (bytes : ℕ) (F : Monitor → Course) {w x : Watched} (e : w ≡ x) where
+  pub not-opened : {r : Refusal} → w .answer ≡ Answers.Refused r → Put b 0 (refusedText r) now end → Put b 0 (openedText bytes (x .answer) (F (x .monitor))) now end
+  not-opened f h = subst (λ (y : Watched). Put b 0 (openedText bytes (y .answer) (F (y .monitor))) now end) e (rw f h)
 
-  pub opened-said : {l : Lamp} {mid : List ℕ} {at : ℕ} → w .answer ≡ Answers.Shown l → Put b 0 (startText l) mid at → Put mid at (behindText props (F (w .monitor))) now end
-      → Put b 0 (openedText props (x .answer) (F (x .monitor))) now end
-  opened-said f p q = subst (λ (y : Watched). Put b 0 (openedText props (y .answer) (F (y .monitor))) now end) e (rw f (puts p q))
+  pub opened-said : {l : Lamp} {mid : List ℕ} {at : ℕ} → w .answer ≡ Answers.Shown l → Put b 0 (startText l) mid at → Put mid at (behindText bytes (F (w .monitor))) now end
+      → Put b 0 (openedText bytes (x .answer) (F (x .monitor))) now end
+  opened-said f p q = subst (λ (y : Watched). Put b 0 (openedText bytes (y .answer) (F (y .monitor))) now end) e (rw f (puts p q))
 
 -- and that a log may be followed from it
 pub fits-opened : (p : Plant) (fair label next : List ℕ) (rule : Rule) → length (rule .nodes) ≡ 32 → preparedOf p fair label next rule .outcome ≡ Accepted

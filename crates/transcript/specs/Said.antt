@@ -2,7 +2,7 @@
 use Prim.Native.Nat.{ℕ}
 use mathlib.Core.Bool.{Bool, true, false}
 use mathlib.Core.List.{List, [], _++_}
-use lib.ListN.{take}
+use lib.ListN.{getD, take}
 use Rattle.answers.specs.declared.Kind.the-variants.{File as FileKind}
 use Rattle.answers.specs.declared.Answer.{Answer}
 use Rattle.answers.specs.declared.Answer.the-variants as Answers
@@ -18,8 +18,7 @@ use Rattle.rule.specs.declared.RuleRead.{RuleRead}
 use Rattle.rule.specs.Reading.{noRule, ruleRead}
 use Rattle.text.specs.Number.{widthOf}
 use Rattle.text.specs.Lines.{lineStart}
-use Rattle.log.specs.Line.{lineBytes}
-use Rattle.log.specs.Read.{logRead}
+use Rattle.log.specs.Read.{bytesIn, logRead}
 use Rattle.live.specs.Prepare.{preparedOf}
 use Rattle.monitor.specs.declared.Watched.{Watched}
 use Rattle.monitor.specs.Calls.{openCall}
@@ -67,14 +66,14 @@ abbrev pub stopText : Outcome → ℕ → List ℕ
 stopText Accepted offset = []
 stopText (Refused r) offset = refusedText (placedAt r offset)
 
--- the lamps of the log's lines, and then the event behind those taken
+-- the lamps of the log's lines, each of so many bytes, and then the event behind those taken
 abbrev pub behindText : ℕ → Course → List ℕ
-behindText props c = linesText (c .lamps) ++ stopText (c .went .outcome) (lineStart (lineBytes (widthOf props)) (c .went .done))
+behindText wide c = linesText (λ k. getD (c .numbers) k 0) (c .lamps) ++ stopText (c .went .outcome) (lineStart wide (c .went .done))
 
 -- and before them the lamp at the start
 abbrev pub openedText : ℕ → Answer → Course → List ℕ
-openedText props (Answers.Shown l) c = startText l ++ behindText props c
-openedText props (Answers.Refused r) c = refusedText r
+openedText wide (Answers.Shown l) c = startText l ++ behindText wide c
+openedText wide (Answers.Refused r) c = refusedText r
 
 module _ (p : Plant) (fair label next : List ℕ) where
   -- from the start to the log's end: the calls, one after the other
@@ -82,7 +81,7 @@ module _ (p : Plant) (fair label next : List ℕ) where
   playedText rule log =
       let prepared = preparedOf p fair label next rule in
       let opened = openCall p fair label next rule (prepared .live) in
-      orRefused (prepared .outcome) (openedText (p .props) (opened .answer) (courseOf p fair label next rule (prepared .live) (opened .monitor) log))
+      orRefused (prepared .outcome) (openedText (bytesIn (widthOf (p .props)) log) (opened .answer) (courseOf p fair label next rule (prepared .live) (opened .monitor) log))
 
   -- the form of a log is checked before any lamp is shown
   abbrev pub logText : Rule → File → List ℕ

@@ -59,29 +59,36 @@ fn wide(x: u8) -> usize
     x as usize
 }
 
-fn put_lamp(out: &mut [u8], at: usize, n: usize, verdict: u8, left: u8) -> usize
+fn put_lamp(out: &mut [u8], at: usize, number: u64, verdict: u8, left: u8) -> usize
     requires { ⌜ at + 70 ≤ length (now out) ⌝ }
-    ensures text { λ r. ⌜ Put (now (out .entry)) at (lampText n (lampOf verdict left)) (now (out .exit)) r ⌝ }
+    ensures text { λ r. ⌜ Put (now (out .entry)) at (lampText number (lampOf verdict left)) (now (out .exit)) r ⌝ }
     ensures bound { λ r. ⌜ r ≤ at + 70 ⌝ }
 {
     let lamp = Lamp {
         verdict: verdict_of(verdict),
         left: wide(left),
     };
-    let line = report::lamp_line(n, lamp);
+    let line = report::lamp_line(number as usize, lamp);
     put_line(out, at, line)
 }
 
 // The lines of `done` events.
-pub fn put_lamps(out: &mut [u8], at: usize, done: usize, verdicts: &[u8], lefts: &[u8]) -> usize
-    requires { ⌜ (done ≤ length (now verdicts)) × (done ≤ length (now lefts)) × (at + 70 * done ≤ length (now out)) ⌝ }
-    ensures text { λ r. ⌜ Put (now (out .entry)) at (byteLines done (now (verdicts .entry)) (now (lefts .entry))) (now (out .exit)) r ⌝ }
+pub fn put_lamps(
+    out: &mut [u8],
+    at: usize,
+    done: usize,
+    verdicts: &[u8],
+    lefts: &[u8],
+    numbers: &[u64],
+) -> usize
+    requires { ⌜ (done ≤ length (now verdicts)) × (done ≤ length (now lefts)) × (done ≤ length (now numbers)) × (at + 70 * done ≤ length (now out)) ⌝ }
+    ensures text { λ r. ⌜ Put (now (out .entry)) at (byteLines done (now (verdicts .entry)) (now (lefts .entry)) (now (numbers .entry))) (now (out .exit)) r ⌝ }
     ensures bound { λ r. ⌜ r ≤ at + 70 * done ⌝ }
 {
     let mut end = at;
     let mut n = 0;
     while n < done {
-        end = put_lamp(out, end, n, verdicts[n], lefts[n]);
+        end = put_lamp(out, end, numbers[n], verdicts[n], lefts[n]);
         n += 1;
     }
     end

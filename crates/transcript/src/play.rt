@@ -16,6 +16,8 @@ ghost use Prim.Native.Nat.{_+_, _*_, _≤_};
 ghost use lib.ListN.{length};
 ghost use Rattle.answers.specs.declared.Outcome.the-variants.{Accepted};
 ghost use Rattle.checks.specs.Checks.{inputOutcome};
+ghost use Rattle.text.specs.Number.{widthOf};
+ghost use Rattle.log.specs.Read.{bytesIn};
 ghost use Rattle.live.specs.Prepare.{preparedOf};
 ghost use Rattle.monitor.specs.Calls.{openCall};
 ghost use Rattle.course.specs.Course.{courseOf, Fitting};
@@ -57,7 +59,7 @@ fn from_start(
     out: &mut [u8],
 ) -> usize
     requires { ⌜ (preparedOf plant (now fair) (now label) (now next) rule .outcome ≡ Accepted) × (live ≡ preparedOf plant (now fair) (now label) (now next) rule .live) × (length (now log) ≤ 65520) × (229460 ≤ length (now out)) ⌝ }
-    ensures { λ r. ⌜ Put (now (out .entry)) 0 (openedText (plant .props) (openCall plant (now (fair .entry)) (now (label .entry)) (now (next .entry)) rule live .answer)
+    ensures { λ r. ⌜ Put (now (out .entry)) 0 (openedText (bytesIn (widthOf (plant .props)) (now (log .entry))) (openCall plant (now (fair .entry)) (now (label .entry)) (now (next .entry)) rule live .answer)
         (courseOf plant (now (fair .entry)) (now (label .entry)) (now (next .entry)) rule live (openCall plant (now (fair .entry)) (now (label .entry)) (now (next .entry)) rule live .monitor) (now (log .entry)))) (now (out .exit)) r ⌝ }
 {
     let opened = monitor::open(plant, fair, label, next, rule, live);
@@ -86,10 +88,11 @@ fn behind_start(
     out: &mut [u8],
 ) -> usize
     requires { ⌜ Fitting plant (now fair) (now label) (now next) rule live monitor × (at ≤ 70) × (length (now log) ≤ 65520) × (229460 ≤ length (now out)) ⌝ }
-    ensures { λ r. ⌜ Put (now (out .entry)) at (behindText (plant .props) (courseOf plant (now (fair .entry)) (now (label .entry)) (now (next .entry)) rule live monitor (now (log .entry)))) (now (out .exit)) r ⌝ }
+    ensures { λ r. ⌜ Put (now (out .entry)) at (behindText (bytesIn (widthOf (plant .props)) (now (log .entry))) (courseOf plant (now (fair .entry)) (now (label .entry)) (now (next .entry)) rule live monitor (now (log .entry)))) (now (out .exit)) r ⌝ }
 {
     let mut verdicts = [0u8; 3276];
     let mut lefts = [0u8; 3276];
+    let mut numbers = [0u64; 3276];
     let went = course::follow(
         plant,
         fair,
@@ -101,11 +104,12 @@ fn behind_start(
         log,
         &mut verdicts,
         &mut lefts,
+        &mut numbers,
     );
     let outcome = went.outcome;
     let done = went.done;
-    let offset = done * log::line_bytes(plant.props);
-    put_went(out, at, outcome, done, &verdicts, &lefts, offset)
+    let offset = done * log::line_bytes(log, plant.props);
+    put_went(out, at, outcome, done, &verdicts, &lefts, &numbers, offset)
 }
 
 // The lines of the events taken, and the refusal of the one behind them, whose line is at `offset`.
@@ -116,12 +120,13 @@ fn put_went(
     done: usize,
     verdicts: &[u8],
     lefts: &[u8],
+    numbers: &[u64],
     offset: usize,
 ) -> usize
-    requires { ⌜ (at ≤ 70) × (done ≤ 3276) × (done ≤ length (now verdicts)) × (done ≤ length (now lefts)) × (229460 ≤ length (now out)) ⌝ }
-    ensures { λ r. ⌜ Put (now (out .entry)) at (byteLines done (now (verdicts .entry)) (now (lefts .entry)) ++ stopText outcome offset) (now (out .exit)) r ⌝ }
+    requires { ⌜ (at ≤ 70) × (done ≤ 3276) × (done ≤ length (now verdicts)) × (done ≤ length (now lefts)) × (done ≤ length (now numbers)) × (229460 ≤ length (now out)) ⌝ }
+    ensures { λ r. ⌜ Put (now (out .entry)) at (byteLines done (now (verdicts .entry)) (now (lefts .entry)) (now (numbers .entry)) ++ stopText outcome offset) (now (out .exit)) r ⌝ }
 {
-    let end = put_lamps(out, at, done, verdicts, lefts);
+    let end = put_lamps(out, at, done, verdicts, lefts, numbers);
     match outcome {
         Outcome::Accepted => end,
         Outcome::Refused(refusal) => put_refused(out, end, placed(refusal, offset)),
@@ -138,12 +143,13 @@ pub fn at_line(outcome: Outcome, offset: usize) -> Outcome
     }
 }
 
-// An event is refused at its line, whose first byte is at `offset`; the call that takes it knows of no line.
+// An event is refused by 10 or 16 at its line, whose first byte is at `offset`; the call that takes it knows of no line.
 fn placed(refusal: Refusal, offset: usize) -> Refusal
     ensures { λ r. ⌜ r ≡ placedAt refusal offset ⌝ }
 {
     let kind = refusal.kind;
-    if kind.number() == Kind::ILLEGAL_EVENT {
+    let number = kind.number();
+    if (number == Kind::ILLEGAL_EVENT) | (number == Kind::NUMBER) {
         return Refusal::at(kind, offset);
     }
     refusal

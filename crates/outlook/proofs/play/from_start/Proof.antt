@@ -11,15 +11,15 @@ use Rattle.outlook.proofs.play.from_start.Tie as tie
 
 follow-requires : tie.Need-follow-requires
 follow-requires c κs =
-    let opened = c .before .before .before in
+    let opened = c .before .before .before .before in
     let start = opened .before .before .before .before .before in
     let a = start .args in
     fits-opened (a .plant) (a .fair .now) (a .label .now) (a .next .now) (a .rule) (full (a .rule .nodes) (start .good .1 .1 .1 .1 .0 .1 .1 .1 .0)) (start .pre .0) (start .pre .1) (opened .«open» .ensures)
 
 mul-offset : tie.Need-mul-offset
 mul-offset c =
-    let went = c .before .before .before .before in
-    let opened = went .before .before .before .before in
+    let went = c .before .before .before .before .before in
+    let opened = went .before .before .before .before .before in
     let start = opened .before .before .before .before .before in
     let a = start .args in
     let k = counted (a .plant) (a .fair .now) (a .label .now) (a .next .now) (a .rule) (a .live) (opened .«open» .result .monitor) (eventAt (widthOf (a .plant .props)) (a .text .now)) (wholeLines (widthOf (a .plant .props)) (a .text .now)) in
@@ -27,4 +27,4 @@ mul-offset c =
 
 pub from-start-spec : {M : Type 1} → statement M
 from-start-spec =
-    tie.close (tie.spec (λ c κs. search needs) (λ c. search needs) (λ c. search needs) follow-requires (λ c κs. search needs) mul-offset (λ c κs. search needs) (λ c. search needs))
+    tie.close (tie.spec (λ c κs. search needs) (λ c. search needs) (λ c. search needs) (λ c. search needs) follow-requires (λ c κs. search needs) mul-offset (λ c κs. search needs) (λ c. search needs))

@@ -7,19 +7,22 @@ use mathlib.Core.List.{List}
 use lib.ListN.{length, replicate, length-replicate}
 use Rattle.text.specs.Number.{widthOf, width-between}
 use Rattle.log.specs.Line.{lineBytes}
-use Rattle.log.specs.Read.{eventAt, wholeLines}
+use Rattle.log.specs.Read.{isNumbered, bytesIn, eventAt, wholeLines}
 use Rattle.course.specs.Lamps.{Counted, counted}
 use Rattle.course.specs.Course.{courseOf}
-use Rattle.transcript.proofs.Cases.{done-few, line-inside, verdicts-long, lefts-long, course-said}
+use Rattle.transcript.proofs.Cases.{done-few, line-inside, verdicts-long, lefts-long, numbers-long, course-said}
 use Rattle.transcript.proofs.play.behind_start.Statement.{statement}
 use Rattle.transcript.proofs.play.behind_start.Tie as tie
 
 -- a log has no more than 3,276 lines, however wide they are
 few-lines : (props : ℕ) (text : List ℕ) → length text ≤ 65520 → wholeLines (widthOf props) text ≤ 3276
 few-lines props text h =
-    omega (arith, div-lt-iff-lt-mul {k = lineBytes (widthOf props)} {x = length text} {y = 3277} (omega arith) .1 (omega (arith, width-between props .0)))
+    omega (arith, div-lt-iff-lt-mul {k = bytesIn (widthOf props) text} {x = length text} {y = 3277} (omega (arith, wide)) .1 (omega (arith, h, wide)))
+  where
+    wide : 20 ≤ bytesIn (widthOf props) text
+    wide = omega (arith, width-between props .0)
 
--- and the two buffers have room for as many events
+-- and the buffers have room for as many events
 room : (n : ℕ) → n ≤ 3276 → n ≤ length (replicate {A = ℕ} 3276 0)
 room n h = omega (arith, length-replicate {A = ℕ} 3276 0)
 
@@ -36,29 +39,35 @@ module _ (c : tie.Start) where
 
 mul-offset : tie.Need-mul-offset
 mul-offset c =
-    let went = c .before .before .before in
-    let start = went .before .before .before .before .before .before .before .before in
+    let went = c .before .before .before .before in
+    let start = went .before .before .before .before .before .before .before .before .before in
     record { fits = omega (arith, line-inside (start .args .plant .props) (start .args .log .now) (c .line-bytes .ensures) (done-few (told start) (went .follow .ensures)), start .pre .2) }
 
 put-went-requires : tie.Need-put-went-requires
 put-went-requires c κs =
-    let went = c .before .before .before .before .before .before in
-    let start = went .before .before .before .before .before .before .before .before in
+    let went = c .before .before .before .before .before .before .before .before in
+    let start = went .before .before .before .before .before .before .before .before .before in
     let h = went .follow .ensures in
     let done = done-few (told start) h in
-    let long = length-replicate {A = ℕ} 3276 0 in
-    (start .pre .1, omega (arith, done, few start), omega (arith, done, few start, long, verdicts-long (told start) h), omega (arith, done, few start, long, lefts-long (told start) h), start .pre .3)
+    let long = length-replicate {A = ℕ} 3276 0 in (
+      start .pre .1,
+      omega (arith, done, few start),
+      omega (arith, done, few start, long, verdicts-long (told start) h),
+      omega (arith, done, few start, long, lefts-long (told start) h),
+      omega (arith, done, few start, long, numbers-long (told start) h),
+      start .pre .3,
+    )
 
 returns : tie.Need-returns
 returns c =
-    let bytes = c .before .before .before .before .before .before in
-    let went = bytes .before .before .before in
-    let start = went .before .before .before .before .before .before .before .before in
+    let bytes = c .before .before .before .before .before .before .before in
+    let went = bytes .before .before .before .before in
+    let start = went .before .before .before .before .before .before .before .before .before in
     let much = room (lines start) (few start) in
-    course-said (told start) (went .follow .ensures) much much (start .args .plant .props) (bytes .line-bytes .ensures) (c .before .before .put-went .ensures)
+    course-said (told start) (went .follow .ensures) much much much (bytes .line-bytes .ensures) (c .before .before .put-went .ensures)
 
 pub behind-start-spec : {M : Type 1} → statement M
 behind-start-spec =
     tie.close (tie.spec
-    (λ c. search needs) (λ c. search needs) (λ c κs. c .before .before .before .before .before .before .before .pre .0) (λ c κs. search needs) mul-offset (λ c. search needs) (λ c. search needs)
+    (λ c. search needs) (λ c. search needs) (λ c. search needs) (λ c κs. c .before .before .before .before .before .before .before .before .pre .0) (λ c κs. search needs) mul-offset (λ c. search needs) (λ c. search needs) (λ c. search needs)
     put-went-requires (λ c. search needs) returns)

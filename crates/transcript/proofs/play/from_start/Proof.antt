@@ -4,6 +4,8 @@ use native.Mathlib.Omega.{arith}
 use Rattle.syntax.proofs.Held.{full}
 use Rattle.advance.specs.declared.Monitor.{Monitor}
 use Rattle.course.specs.Course.{courseOf}
+use Rattle.text.specs.Number.{widthOf}
+use Rattle.log.specs.Read.{bytesIn}
 use Rattle.report.proofs.Puts.{puts, put-length}
 use Rattle.transcript.proofs.Cases.{not-opened, opened-said, fits-opened}
 use Rattle.transcript.proofs.play.from_start.Statement.{statement}
@@ -26,7 +28,7 @@ returns : tie.Need-returns
 returns c =
     let opened = c .before .before .before .before .before .before .before .before in
     let a = opened .before .before .before .before .before .before .args in
-    not-opened (a .plant .props) (λ (m : Monitor). courseOf (a .plant) (a .fair .now) (a .label .now) (a .next .now) (a .rule) (a .live) m (a .log .now)) (opened .«open» .ensures)
+    not-opened (bytesIn (widthOf (a .plant .props)) (a .log .now)) (λ (m : Monitor). courseOf (a .plant) (a .fair .now) (a .label .now) (a .next .now) (a .rule) (a .live) m (a .log .now)) (opened .«open» .ensures)
     (c .before .before .before .before .before .answer .given .1) (c .before .before .put-refused .ensures)
 
 same-length-2 : tie.Need-same-length-2
@@ -36,7 +38,7 @@ returns-2 : tie.Need-returns-2
 returns-2 c =
     let opened = c .before .before .before .before .before .before .before .before .before .before .before .before in
     let a = opened .before .before .before .before .before .before .args in
-    opened-said (a .plant .props) (λ (m : Monitor). courseOf (a .plant) (a .fair .now) (a .label .now) (a .next .now) (a .rule) (a .live) m (a .log .now)) (opened .«open» .ensures)
+    opened-said (bytesIn (widthOf (a .plant .props)) (a .log .now)) (λ (m : Monitor). courseOf (a .plant) (a .fair .now) (a .label .now) (a .next .now) (a .rule) (a .live) m (a .log .now)) (opened .«open» .ensures)
     (c .before .before .before .before .before .before .before .before .before .answer2 .given .1) (c .before .before .before .before .before .before .put-start .ensures .0)
     (c .before .before .behind-start .ensures)
 

@@ -4,6 +4,8 @@ use mathlib.Core.Path.{sym, ap, _∙_}
 use Rattle.live.specs.declared.Prepared.{Prepared}
 use Rattle.monitor.specs.Calls.{openCall}
 use Rattle.course.specs.Course.{courseOf}
+use Rattle.text.specs.Number.{widthOf}
+use Rattle.log.specs.Read.{bytesIn}
 use Rattle.transcript.specs.Said.{openedText, playedText}
 use Rattle.transcript.proofs.Cases.{refused-said, accepted-said}
 use Rattle.transcript.proofs.play.play.Statement.{statement}
@@ -21,7 +23,7 @@ returns c =
     let told = c .before .before .before .before .before .before .before .before in
     let a = told .before .before .before .before .before .before .args in
     refused-said (λ (r : Prepared). r .outcome)
-    (λ (r : Prepared). openedText (a .plant .props) (openCall (a .plant) (a .fair .now) (a .label .now) (a .next .now) (a .rule) (r .live) .answer)
+    (λ (r : Prepared). openedText (bytesIn (widthOf (a .plant .props)) (a .log .now)) (openCall (a .plant) (a .fair .now) (a .label .now) (a .next .now) (a .rule) (r .live) .answer)
     (courseOf (a .plant) (a .fair .now) (a .label .now) (a .next .now) (a .rule) (r .live) (openCall (a .plant) (a .fair .now) (a .label .now) (a .next .now) (a .rule) (r .live) .monitor) (a .log .now)))
     (told .prepare .ensures) (c .before .before .before .before .before .outcome .given .1) (c .before .before .put-refused .ensures)
 
@@ -31,7 +33,7 @@ returns-2 c =
     let told = c .before .before .before .before .before .before .before in
     let a = told .before .before .before .before .before .before .args in
     accepted-said (λ (r : Prepared). r .outcome)
-    (λ (r : Prepared). openedText (a .plant .props) (openCall (a .plant) (a .fair .now) (a .label .now) (a .next .now) (a .rule) (r .live) .answer)
+    (λ (r : Prepared). openedText (bytesIn (widthOf (a .plant .props)) (a .log .now)) (openCall (a .plant) (a .fair .now) (a .label .now) (a .next .now) (a .rule) (r .live) .answer)
     (courseOf (a .plant) (a .fair .now) (a .label .now) (a .next .now) (a .rule) (r .live) (openCall (a .plant) (a .fair .now) (a .label .now) (a .next .now) (a .rule) (r .live) .monitor) (a .log .now)))
     (told .prepare .ensures) (c .before .before .before .before .enum-told .given .1) (c .before .before .from-start .ensures)
 

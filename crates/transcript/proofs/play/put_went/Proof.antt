@@ -7,13 +7,13 @@ use Rattle.transcript.proofs.play.put_went.Statement.{statement}
 use Rattle.transcript.proofs.play.put_went.Tie as tie
 
 put-lamps-requires : tie.Need-put-lamps-requires
-put-lamps-requires c κs = let p = c .before .before .before .before .pre in (p .2, p .3, omega (arith, p .0, p .1, p .4))
+put-lamps-requires c κs = let p = c .before .before .before .before .before .pre in (p .2, p .3, p .4, omega (arith, p .0, p .1, p .5))
 
 put-refused-requires : tie.Need-put-refused-requires
 put-refused-requires c κs =
     let lamps = c .before .before .before .before .before .before .before in
-    let p = lamps .before .before .before .before .before .pre in
-    omega (arith, p .0, p .1, p .4, lamps .put-lamps .ensures .1, put-length (lamps .put-lamps .ensures .0))
+    let p = lamps .before .before .before .before .before .before .pre in
+    omega (arith, p .0, p .1, p .5, lamps .put-lamps .ensures .1, put-length (lamps .put-lamps .ensures .0))
 
 returns : tie.Need-returns
 returns c = went-all _ (c .enum-told .given .1) (c .before .before .before .before .put-lamps .ensures .0)
