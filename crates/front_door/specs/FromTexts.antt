@@ -15,9 +15,6 @@ use Rattle.text.specs.Written.{smallOf}
 use Rattle.text.specs.Place.{Fills, OfForm, RefusedAt}
 use Rattle.text.specs.Form.{Form}
 use Rattle.text.specs.Cases.{below-or-beyond}
-use Rattle.text.specs.Promises.{filled-out}
-use Rattle.text.specs.Many.{below-length}
-use Rattle.text.specs.Lines.{lines, all-begun}
 use Rattle.answers.specs.declared.Kind.{Kind}
 use Rattle.answers.specs.declared.Kind.the-variants.{RuleLength, RuleText, Proposition, Nodes, Parts}
 use Rattle.answers.specs.declared.Outcome.{Outcome}
@@ -45,12 +42,11 @@ use Rattle.rule.specs.Valid.{RuleValue}
 use Rattle.rule.specs.Paper.{Beside}
 use Rattle.rule.specs.Promises as rules
 use Rattle.log.specs.declared.Event.{Event}
-use Rattle.log.specs.Line.{line, lineBytes, line-fixed}
-use Rattle.log.specs.Log.{nothing, logForm}
-use Rattle.log.specs.Read.{wholeLines}
+use Rattle.log.specs.Line.{lineBytes}
 use Rattle.log.specs.declared.LogRead.{LogRead}
 use Rattle.log.specs.Promises as logs
-use Rattle.log.specs.Promises.{AllWritable, all-ok, log-out, small-read}
+use Rattle.log.specs.Promises.{AllWritable, small-read}
+use Rattle.log.specs.Forms.{first-is, lines-many}
 use Rattle.checks.specs.Input.{Input, given, formula-is}
 use Rattle.report.specs.Text.{lf}
 use Rattle.transcript.specs.Said as said
@@ -61,20 +57,14 @@ use Rattle.front_door.specs.RuleEnd.{stripped, end-said, end-dropped, en
 
 -- ---- the readers
 
--- a text that fills the lines of a log has as many as it has events
-lines-many : (w : ℕ) (es : List Event) (s : List ℕ) → AllWritable w es → Fills s (logForm w .slots es) → wholeLines w s ≡ length es
-unfolding lines
-lines-many w es s ok fills =
-    all-begun (lineBytes w) (length s) (length es) (line-fixed w .some)
-    (sym (fills .long) ∙ below-length (λ j. line w) (λ j. lineBytes w) (λ j. line-fixed w .bytes) (length es) (λ k. getD es k nothing) (all-ok w es .1 ok)) .1
-
 -- a log that says events is accepted
 log-taken : {log : File} {q : ℕ} {es : List Event} (says : SaysLog log q es) → Taken (widthOf q) (says .text) es
 log-taken {log} {q} {es} says = let read = small-read (widthOf q) es (says .text) (says .writable) (says .said) in
     record {
       accepts = ap (λ (r : LogRead). r .outcome) (read .0);
       events = read .1;
-      many = lines-many (widthOf q) es (says .text) (says .writable) (filled-out (log-out (widthOf q)) es (says .text) .1 (says .said));
+      many = lines-many (widthOf q) es (says .text) (says .writable) (says .said) .0;
+      wide = ap (λ (b : Bool). lineBytes b (widthOf q)) (first-is (widthOf q) es (says .text) (says .writable) (says .said));
     }
 
 -- where a form refuses a text, said by the texts of the form alone

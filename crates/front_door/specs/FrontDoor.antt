@@ -6,7 +6,7 @@
 use Prim.Native.Nat.{ℕ, suc, _≤_, _<_}
 use mathlib.Core.Path.{_≡_}
 use mathlib.Core.Logic.{_⊎_}
-use mathlib.Core.List.{List, [], _++_, map}
+use mathlib.Core.List.{List, [], _++_}
 use lib.ListN.{length, getD, take}
 use Rattle.meaning.specs.Formula.{Formula, size, parts}
 use Rattle.meaning.specs.Run.{Plant}
@@ -15,8 +15,9 @@ use Rattle.meaning.specs.Limits.{AcceptedTable, Legal, mostNodes, mostParts}
 use Rattle.text.specs.Number.{widthOf}
 use Rattle.text.specs.Written.{smallOf}
 use Rattle.text.specs.Lines.{lineStart}
+use Rattle.text.specs.LinesChoice.{firstOf}
 use Rattle.answers.specs.declared.Kind.{Kind}
-use Rattle.answers.specs.declared.Kind.the-variants.{Bits, TableText, LogText, IllegalEvent, File as FileKind}
+use Rattle.answers.specs.declared.Kind.the-variants.{Bits, TableText, LogText, IllegalEvent, File as FileKind, Number as NumberKind}
 use Rattle.answers.specs.declared.Lamp.{Lamp}
 use Rattle.answers.specs.declared.Answer.the-variants.{Shown}
 use Rattle.answers.specs.Paper.{refusedAt}
@@ -29,9 +30,9 @@ use Rattle.rule.specs.Paper.{Because}
 use Rattle.log.specs.declared.Event.{Event}
 use Rattle.log.specs.Legal.{seenOf}
 use Rattle.log.specs.Line.{lineBytes}
-use Rattle.log.specs.Log.{nothing}
+use Rattle.log.specs.Log.{nothing, gives}
 use Rattle.log.specs.Promises.{AllWritable, logSlots, logText}
-use Rattle.advance.specs.Held.{eventOf}
+use Rattle.watching.specs.Filled.{filled, numberAt, InTurnAt}
 use Rattle.report.specs.Text.{startText, refusedText, lf}
 use Rattle.transcript.specs.End.{endOf}
 use Rattle.transcript.specs.Lines.{dark, linesText}
@@ -84,33 +85,39 @@ pub record StopsAt (Of : List ℕ → Type 0) (s : List ℕ) (i : ℕ) : Type 0 
 
 -- ---- what is shown of them
 
--- event n is legal
+-- event n is legal, and its number in turn: 10 and 16 accept it
 abbrev pub LegalAt : Plant → List Event → ℕ → Type 0
 LegalAt t es n = Legal t (seenOf (getD es n nothing))
 
--- the lamp is right behind these events: its verdict is what the runs of t dictate for f, and `left` counts the states in which an agreeing run can now be
+abbrev pub TakenAt : Plant → List Event → ℕ → Type 0
+TakenAt t es n = LegalAt t es n × InTurnAt es n
+
+-- the lamp is right behind these events, with the unseen ones put in: its verdict is what the runs of t dictate for f, and `left` counts the states in which
+-- an agreeing run can now be
 abbrev pub RightAfter : Plant → Formula → List Event → Lamp → Type 0
-RightAfter t f es lamp = Lit t f (since (map eventOf es)) (Shown lamp)
+RightAfter t f es lamp = Lit t f (since (filled es)) (Shown lamp)
 
 -- `refused=N place=P`
 abbrev pub refused : Kind → ℕ → List ℕ
 refused kind place = refusedText (refusedAt kind place)
 
--- where line k of a log begins
-abbrev pub lineOf : Plant → ℕ → ℕ
-lineOf t k = lineStart (lineBytes (widthOf (t .props))) k
+-- where line k of a log begins: its lines have numbers if its first event does
+abbrev pub lineOf : Plant → List Event → ℕ → ℕ
+lineOf t es k = lineStart (lineBytes (firstOf gives es) (widthOf (t .props))) k
 
--- where the lamps end, and with what: all events are legal, and there is nothing more; or event k is the first that is not, and is refused by 10 at the offset of its line
+-- where the lamps end, and with what: all events are accepted, and there is nothing more; or event k is the first that is not, and is refused at the offset of its line,
+-- by 10 where it is not legal, and else by 16
 pub data Ends (t : Plant) (es : List Event) : ℕ → List ℕ → Type 0 where
-  at-end : ((n : ℕ) → n < length es → LegalAt t es n) → Ends t es (length es) []
-  at-event : (k : ℕ) → k < length es → ((n : ℕ) → n < k → LegalAt t es n) → (LegalAt t es k → ⊥) → Ends t es k (refused IllegalEvent (lineOf t k))
+  at-end : ((n : ℕ) → n < length es → TakenAt t es n) → Ends t es (length es) []
+  at-event : (k : ℕ) → k < length es → ((n : ℕ) → n < k → TakenAt t es n) → (LegalAt t es k → ⊥) → Ends t es k (refused IllegalEvent (lineOf t es k))
+  at-number : (k : ℕ) → k < length es → ((n : ℕ) → n < k → TakenAt t es n) → LegalAt t es k → (InTurnAt es k → ⊥) → Ends t es k (refused NumberKind (lineOf t es k))
 
--- the output: the start, a line for each lamp, the end. The start is right for no events, and line n for the events 0 to n
+-- the output: the start, a line for each lamp, the end. The start is right for no events, and line n, which shows the number of event n, for the events 0 to n
 pub record Shows (t : Plant) (f : Formula) (es : List Event) (output : List ℕ) : Type 0 where
   pub start : Lamp
   pub lamps : List Lamp
   pub end : List ℕ
-  pub is : output ≡ startText start ++ (linesText lamps ++ end)
+  pub is : output ≡ startText start ++ (linesText (numberAt es) lamps ++ end)
   pub start-right : RightAfter t f [] start
   pub line-right : (n : ℕ) → n < length lamps → RightAfter t f (take (suc n) es) (getD lamps n dark)
   pub ends : Ends t es (length lamps) end

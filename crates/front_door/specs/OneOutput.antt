@@ -19,7 +19,7 @@ use Rattle.meaning.specs.Limits.{AcceptedTable}
 use Rattle.meaning.specs.Verdict.{Right}
 use Rattle.answers.specs.declared.Verdict.{Verdict}
 use Rattle.answers.specs.declared.Verdict.the-variants.{Inconclusive, True, False, OutOfModel}
-use Rattle.answers.specs.declared.Kind.the-variants.{IllegalEvent}
+use Rattle.answers.specs.declared.Kind.the-variants.{IllegalEvent, Number as NumberKind}
 use Rattle.answers.specs.declared.Lamp.{Lamp}
 use Rattle.answers.specs.declared.Answer.{Answer}
 use Rattle.answers.specs.declared.Answer.the-variants.{Shown}
@@ -39,7 +39,8 @@ use Rattle.transcript.specs.Said.{File, bytes, bytesOf}
 use Rattle.promises.specs.Demand.{Lit}
 use Rattle.front_door.specs.RuleEnd.{stripped, end-said, end-dropped}
 use Rattle.front_door.specs.FrontDoor as door
-use Rattle.front_door.specs.FrontDoor.{SaysTable, SaysRule, SaysLog, Ends, at-end, at-event, Shows}
+use Rattle.watching.specs.Filled.{numberAt}
+use Rattle.front_door.specs.FrontDoor.{SaysTable, SaysRule, SaysLog, TakenAt, Ends, at-end, at-event, at-number, Shows}
 
 -- ---- what files say
 
@@ -100,23 +101,33 @@ module _ (t : Plant) (f : Formula) where
           ∙ count-same (t .states) (a .counts .0) (b .counts .0) (λ s low. says-same (a .counts .1 s) (b .counts .1 s))
           ∙ sym (ap leftIn (b .shown) ∙ b .counts .2)
 
-  -- nor two ends
+  -- there is one first event that is not accepted
+  stop-one : {es : List Event} (k m : ℕ) → ((n : ℕ) → n < k → TakenAt t es n) → ((n : ℕ) → n < m → TakenAt t es n) → (TakenAt t es k → ⊥) → (TakenAt t es m → ⊥) → k ≡ m
+  stop-one k m a b bad bad' =
+      ⊎-elim (λ (l : k < m). absurd (bad (b k l)))
+      (λ (l : m ≤ k). ⊎-elim (λ (g : m < k). absurd (bad' (a m g))) (λ (g : k ≤ m). omega arith) (below-or-beyond m k))
+      (below-or-beyond k m)
+
+  -- so there are no two ends
   end-one : {es : List Event} {k m : ℕ} {x y : List ℕ} → Ends t es k x → Ends t es m y → (k ≡ m) × (x ≡ y)
   end-one (at-end a) (at-end b) = (refl, refl)
-  end-one (at-end a) (at-event m low b bad) = absurd (bad (a m low))
-  end-one (at-event k low a bad) (at-end b) = absurd (bad (b k low))
-  end-one (at-event k low a bad) (at-event m low' b bad') = (same, ap (λ (n : ℕ). door.refused IllegalEvent (door.lineOf t n)) same)
-    where
-      same : k ≡ m
-      same =
-          ⊎-elim (λ (l : k < m). absurd (bad (b k l)))
-          (λ (l : m ≤ k). ⊎-elim (λ (g : m < k). absurd (bad' (a m g))) (λ (g : k ≤ m). omega arith) (below-or-beyond m k))
-          (below-or-beyond k m)
+  end-one (at-end a) (at-event m low b bad) = absurd (bad (a m low .0))
+  end-one (at-end a) (at-number m low b fine bad) = absurd (bad (a m low .1))
+  end-one (at-event k low a bad) (at-end b) = absurd (bad (b k low .0))
+  end-one {es} (at-event k low a bad) (at-event m low' b bad') =
+      let same = stop-one k m a b (λ x. bad (x .0)) (λ x. bad' (x .0)) in (same, ap (λ (n : ℕ). door.refused IllegalEvent (door.lineOf t es n)) same)
+  end-one {es} (at-event k low a bad) (at-number m low' b fine bad') =
+      absurd (bad (subst (door.LegalAt t es) (sym (stop-one k m a b (λ x. bad (x .0)) (λ x. bad' (x .1)))) fine))
+  end-one (at-number k low a fine bad) (at-end b) = absurd (bad (b k low .1))
+  end-one {es} (at-number k low a fine bad) (at-event m low' b bad') =
+      absurd (bad' (subst (door.LegalAt t es) (stop-one k m a b (λ x. bad (x .1)) (λ x. bad' (x .0))) fine))
+  end-one {es} (at-number k low a fine bad) (at-number m low' b fine' bad') =
+      let same = stop-one k m a b (λ x. bad (x .1)) (λ x. bad' (x .1)) in (same, ap (λ (n : ℕ). door.refused NumberKind (door.lineOf t es n)) same)
 
   pub one-output : {es : List Event} {x y : List ℕ} → Shows t f es x → Shows t f es y → x ≡ y
   one-output {es} a b =
       a .is ∙ ap₂ (λ (l : Lamp) (s : List ℕ). startText l ++ s) (lamp-one (a .start) (b .start) (a .start-right) (b .start-right))
-      (ap₂ (λ (ls : List Lamp) (s : List ℕ). linesText ls ++ s) lamps (ends .1)) ∙ sym (b .is)
+      (ap₂ (λ (ls : List Lamp) (s : List ℕ). linesText (numberAt es) ls ++ s) lamps (ends .1)) ∙ sym (b .is)
     where
       ends : (length (a .lamps) ≡ length (b .lamps)) × (a .end ≡ b .end)
       ends = end-one (a .ends) (b .ends)

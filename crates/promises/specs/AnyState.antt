@@ -1,19 +1,21 @@
--- 01's step rule, said of the calls: for ANY live set and state handed in, an accepted `open` or `step` holds exactly the pairs that the rule of meaning/specs/Step asks for, and
--- what it shows goes by its two sets alone. Nothing here asks that the live set was prepared, or that the state was reached by events.
-use Prim.Native.Nat.{ℕ, _≤_, _<_}
+-- 01's step rule, said of the calls: for ANY live set and state handed in, an accepted `open` or `step` holds exactly the pairs that the rule of meaning/specs/Step asks for, taken for
+-- each event that is missing and then for the one that came (02, h), and what it shows goes by its two sets alone. Nothing here asks that the live set was prepared, or that the state
+-- was reached by events.
+use Prim.Native.Nat.{ℕ, zero, suc, _+_, _≤_, _<_}
 use native.Mathlib.Omega.{arith}
-use mathlib.Core.Path.{_≡_, refl, ap, _∙_}
+use mathlib.Core.Path.{_≡_, refl, sym, ap, subst, _∙_}
 use mathlib.Core.Logic.{_↔_, _⊎_, inl, inr, ⊎-elim, Iff·trans}
 use mathlib.Core.Bool.{Bool, true, false, So, not, false≢true}
-use mathlib.Core.List.{List}
-use lib.ListN.{length}
+use mathlib.Core.List.{List, [], _∷_, _++_, foldl, foldl-append}
+use lib.ListN.{length, replicate}
 use borrow.Author.Tests.{not-true}
 use Rattle.meaning.specs.Says.{Says}
 use Rattle.meaning.specs.Formula.{Formula}
 use Rattle.meaning.specs.Run as run
+use Rattle.meaning.specs.Event as meaning
 use Rattle.meaning.specs.Verdict.{verdictOf}
 use Rattle.meaning.specs.Step as step
-use Rattle.meaning.specs.Step.{Opens, Stays}
+use Rattle.meaning.specs.Step.{Opens, Source, Stays}
 use Rattle.meaning.specs.Sense.{split-anew}
 use Rattle.meaning.specs.Limits.{AcceptedTable, Small}
 use Rattle.words.specs.Below.{countBelow}
@@ -37,9 +39,10 @@ use Rattle.syntax.specs.declared.Rule.{Rule}
 use Rattle.log.specs.declared.Event.{Event}
 use Rattle.advance.specs.declared.Monitor.{Monitor}
 use Rattle.advance.specs.Held.{modelOf, eventOf}
+use Rattle.advance.specs.Numbers.{numberOf, missingOf, unseen, brings}
 use Rattle.monitor.specs.declared.Watched.{Watched}
 use Rattle.monitor.specs.Calls.{noMonitor, lampOf, watched, lit, openCall, lookCall, stepChecked, stepCall}
-use Rattle.monitor.specs.Promises.{lamp-paper, open-accepted, look-accepted, step-accepted}
+use Rattle.monitor.specs.Promises.{lamp-paper, Fits, open-accepted, look-accepted, step-accepted}
 use Rattle.watching.specs.Watching as watching
 use Rattle.promises.specs.Demand.{sideOf}
 
@@ -62,16 +65,23 @@ pub record ShownBy (T : run.Plant) (m : Monitor) (a : Answer) : Type 0 where
   pub counts : (t : ℕ → Bool) × ((s : ℕ) → Says (t s) ((b : Bool) × (v : ℕ) × Sides m b s v)) × (left ≡ countBelow (T .states) t)
   pub shown : paper a ≡ verdict (verdictOf (some true) (some false)) left
 
--- what `open` gives: no event came, and of the live pairs those at starting states, by the rule's value there
+-- what is held behind some events: by the step rule, each from what was held before it. Behind the first of them an event came
+abbrev pub StaysOn : run.Plant → Formula → step.Pairs → (Bool → step.Pairs) → Bool → List meaning.Event → Bool → step.Pairs
+StaysOn T f live old seen [] = old
+StaysOn T f live old seen (e ∷ es) = StaysOn T f live (Stays T f live old seen e) true es
+
+-- what `open` gives: no event came, 0 is expected, and of the live pairs those at starting states, by the rule's value there
 pub record Opened (T : run.Plant) (f : Formula) (live : Pairs) (w : Watched) : Type 0 where
   pub fresh : w .monitor .seen ≡ false
+  pub expects : w .monitor .expected ≡ 0
   pub holds : (b : Bool) (s v : ℕ) → Says (inside (sideOf (w .monitor) b) s v) (Of live s v × Opens T f b s v)
   pub lamp : ShownBy T (w .monitor) (w .answer)
 
--- what `step` gives: an event came, and the pairs of the step rule
+-- what `step` gives: an event came, the number behind its own is expected, and the pairs of the step rule for all that the event brings
 pub record Stepped (T : run.Plant) (f : Formula) (live : Pairs) (m : Monitor) (e : Event) (w : Watched) : Type 0 where
   pub came : w .monitor .seen ≡ true
-  pub holds : (b : Bool) (s v : ℕ) → Says (inside (sideOf (w .monitor) b) s v) (Stays T f (Of live) (Sides m) (m .seen) (eventOf e) b s v)
+  pub expects : w .monitor .expected ≡ numberOf (e .num) (m .expected) + 1
+  pub holds : (b : Bool) (s v : ℕ) → Says (inside (sideOf (w .monitor) b) s v) (StaysOn T f (Of live) (Sides m) (m .seen) (brings (m .seen) (m .expected) e) b s v)
   pub lamp : ShownBy T (w .monitor) (w .answer)
 
 -- ---- the lamp of a monitor whose sets are of the table and the rule
@@ -109,6 +119,48 @@ module _ (T : run.Plant) (f : Formula) (A : AcceptedTable T) (small : Small f) (
       none-beyond : (s : ℕ) → T .states ≤ s → occurs s ≡ false
       none-beyond s le = not-so (occurs s) (λ o. let (b, v, i) = occurs-says s .0 o in let k = held b .range s v i .0 in absurd (omega arith))
 
+-- ---- the step rule, event after event
+
+module _ (T : run.Plant) (f : Formula) (live : step.Pairs) where
+  -- who held more holds more
+  source-more : (old more : Bool → step.Pairs) → ((c : Bool) (s v : ℕ) → old c s v → more c s v) → (seen new b : Bool) (s v : ℕ) → Source T f old seen new b s v → Source T f more seen new b s v
+  source-more old more held false new b s v o = held b s v o
+  source-more old more held true true b s v (h, (c, (s₀, v₀, (o, l)))) = (h, (c, (s₀, v₀, (held c s₀ v₀ o, l))))
+  source-more old more held true false b s v (s₀, v₀, (o, l)) = (s₀, v₀, (held b s₀ v₀ o, l))
+
+  stays-more : (es : List meaning.Event) (old more : Bool → step.Pairs) → ((c : Bool) (s v : ℕ) → old c s v → more c s v) → (seen b : Bool) (s v : ℕ)
+      → StaysOn T f live old seen es b s v → StaysOn T f live more seen es b s v
+  stays-more [] old more held seen b s v o = held b s v o
+  stays-more (e ∷ es) old more held seen b s v o =
+      stays-more es (Stays T f live old seen e) (Stays T f live more seen e) (λ c s v (i, g, o). (i, g, source-more old more held seen (e .new) c s v o)) true b s v o
+
+  -- AT A RESTART behind unseen events it plays no part how the pairs held were split
+  restart-more : (k : ℕ) (e : meaning.Event) → e .new ≡ true → (old other : Bool → step.Pairs) → ((s v : ℕ) → ((c : Bool) × old c s v) → (c : Bool) × other c s v) → (b : Bool) (s v : ℕ)
+      → StaysOn T f live old true (replicate k unseen ++ e ∷ []) b s v → StaysOn T f live other true (replicate k unseen ++ e ∷ []) b s v
+  restart-more zero e new old other held b s v = rw new (λ (i, g, o). (i, g, split-anew T f old other held b s v o))
+  restart-more (suc k) e new old other held b s v =
+      restart-more k e new (Stays T f live old true unseen) (Stays T f live other true unseen)
+      (λ s v (c, (i, g, (s₀, v₀, (o, l)))). let (d, o') = held s₀ v₀ (c, o) in (d, (i, g, (s₀, v₀, (o', l))))) b s v
+
+module _ (T : run.Plant) (f : Formula) (A : AcceptedTable T) (small : Small f) (live : Pairs) (fits : PairSet T f (live .words)) where
+  -- the model holds these
+  steps-rule : (es : List meaning.Event) (m : model.Monitor) → ((b : Bool) → PairSet T f (model.side m b)) → (b : Bool) (s v : ℕ)
+      → Says (inside (model.side (foldl (model.stepOf T f (live .words)) m es) b) s v) (StaysOn T f (Of live) (λ c s v. So (inside (model.side m c) s v)) (m .seen) es b s v)
+  unfolding model.stepOf
+  steps-rule [] m held b s v = says-itself (inside (model.side m b) s v)
+  steps-rule (e ∷ es) m held b s v =
+      let now = model.stepOf T f (live .words) m e in
+      let one = step-rule T f A small (live .words) fits m held e in
+      Iff·trans (steps-rule es now (step-sets T f A small (live .words) fits m held e) b s v) (
+        stays-more T f (Of live) es _ _ (λ c s v i. one c s v .0 i) true b s v,
+        stays-more T f (Of live) es _ _ (λ c s v i. one c s v .1 i) true b s v,
+      )
+
+  -- and behind the last of them an event came
+  steps-seen : (es : List meaning.Event) (e : meaning.Event) (m : model.Monitor) → foldl (model.stepOf T f (live .words)) m (es ++ e ∷ []) .seen ≡ true
+  unfolding model.stepOf
+  steps-seen es e m = ap (λ (x : model.Monitor). x .seen) (foldl-append (model.stepOf T f (live .words)) m es (e ∷ []))
+
 -- ---- the calls
 
 isShown : Answer → Bool
@@ -116,10 +168,10 @@ isShown (Shown l) = true
 isShown (Refused r) = false
 
 -- a call that shows a lamp passed its checks
-passed : (o : Outcome) (old : Monitor) (new : model.Monitor) → Accepts (watched o old new .answer) → o ≡ Outcomes.Accepted
+passed : (o : Outcome) (old : Monitor) (expected : ℕ) (new : model.Monitor) → Accepts (watched o old expected new .answer) → o ≡ Outcomes.Accepted
 unfolding isShown
-passed Outcomes.Accepted old new a = refl
-passed (Outcomes.Refused r) old new (l, e) = absurd (false≢true (ap isShown e))
+passed Outcomes.Accepted old expected new a = refl
+passed (Outcomes.Refused r) old expected new (l, e) = absurd (false≢true (ap isShown e))
 
 passed-look : (o : Outcome) (m : model.Monitor) → Accepts (lit o m) → o ≡ Outcomes.Accepted
 unfolding isShown
@@ -133,16 +185,22 @@ module _ (p : Plant) (fair label next : List ℕ) (rule : Rule) (full : length (
   abbrev f : Formula
   f = watching.f p fair label next rule
 
+  -- both sets of a state are of the table and the rule
+  two-sets : (m : Monitor) → Fits p fair label next rule full m → (b : Bool) → PairSet T f (sideOf m b)
+  two-sets m (keeps, (breaks, low)) true = keeps
+  two-sets m (keeps, (breaks, low)) false = breaks
+
   -- THE OPENING, for any live set
   pub open-any : (live : Pairs) → Accepts (openCall p fair label next rule live .answer) → Opened T f live (openCall p fair label next rule live)
   unfolding openCall model.opening
   open-any live a =
       let new = model.opening T f (live .words) in
-      let ok = passed _ noMonitor new a in
+      let ok = passed _ noMonitor 0 new a in
       let (given, fits) = open-accepted p fair label next rule full live .0 ok in
       let sets = opening-sets T f (given .table) (given .few) (live .words) fits in
       rw ok (record {
         fresh = refl;
+        expects = refl;
         holds = opening-rule T f (given .table) (given .few) (live .words) fits;
         lamp = shown-by T f (given .table) (given .few) _ sets;
       })
@@ -152,46 +210,52 @@ module _ (p : Plant) (fair label next : List ℕ) (rule : Rule) (full : length (
   unfolding lookCall
   look-any m a =
       let ok = passed-look _ (modelOf m) a in
-      let (given, (keeps, breaks)) = look-accepted p fair label next rule full m .0 ok in
-      rw ok (shown-by T f (given .table) (given .few) m (both keeps breaks))
-    where
-      both : PairSet T f (sideOf m true) → PairSet T f (sideOf m false) → (b : Bool) → PairSet T f (sideOf m b)
-      both keeps breaks true = keeps
-      both keeps breaks false = breaks
+      let (given, held) = look-accepted p fair label next rule full m .0 ok in
+      rw ok (shown-by T f (given .table) (given .few) m (two-sets m held))
 
   -- THE STEP RULE, for any live set, state and event
   pub step-any : (live : Pairs) (m : Monitor) (e : Event) → Accepts (stepCall p fair label next rule live m e .answer) → Stepped T f live m e (stepCall p fair label next rule live m e)
-  unfolding stepCall model.stepOf
+  unfolding stepCall
   step-any live m e a =
-      let new = model.stepOf T f (live .words) (modelOf m) (eventOf e) in
-      let ok = passed _ m new a in
-      let ((given, (fits, (keeps, breaks))), _) = step-accepted p fair label next rule full live m e .0 ok in
-      let sets = step-sets T f (given .table) (given .few) (live .words) fits (modelOf m) (both keeps breaks) (eventOf e) in
+      let es = brings (m .seen) (m .expected) e in
+      let ok = passed _ m (numberOf (e .num) (m .expected) + 1) (foldl (model.stepOf T f (live .words)) (modelOf m) es) a in
+      let ((given, (fits, held)), _) = step-accepted p fair label next rule full live m e .0 ok in
+      let sets = watching.brought-sets p fair label next rule given live fits (modelOf m) (two-sets m held) es in
       rw ok (record {
-        came = refl;
-        holds = step-rule T f (given .table) (given .few) (live .words) fits (modelOf m) (both keeps breaks) (eventOf e);
+        came = steps-seen T f (given .table) (given .few) live fits (replicate (missingOf (m .seen) (m .expected) (numberOf (e .num) (m .expected))) unseen) (eventOf e) (modelOf m);
+        expects = refl;
+        holds = steps-rule T f (given .table) (given .few) live fits es (modelOf m) (two-sets m held);
         lamp = shown-by T f (given .table) (given .few) _ sets;
       })
-    where
-      both : PairSet T f (sideOf m true) → PairSet T f (sideOf m false) → (b : Bool) → PairSet T f (sideOf m b)
-      both keeps breaks true = keeps
-      both keeps breaks false = breaks
 
   -- A RESTART FLAG ON THE FIRST EVENT changes nothing, neither the answer nor the monitor, accepted or refused
   pub first-flag : (live : Pairs) (m : Monitor) (e : Event) → m .seen ≡ false
-      → stepCall p fair label next rule live m e ≡ stepCall p fair label next rule live m (record { see = e .see; val = e .val; new = false })
+      → stepCall p fair label next rule live m e ≡ stepCall p fair label next rule live m (record { num = e .num; see = e .see; val = e .val; new = false })
   unfolding stepCall
-  first-flag live m e first = ap (watched (stepChecked p fair label next rule live m e) m) (first-restart T f (live .words) (modelOf m) (eventOf e) first)
+  first-flag live m e first =
+      ap (watched (stepChecked p fair label next rule live m e) m (numberOf (e .num) (m .expected) + 1))
+      (alone e ∙ first-restart T f (live .words) (modelOf m) (eventOf e) first ∙ sym (alone (record { num = e .num; see = e .see; val = e .val; new = false })))
+    where
+      -- the first event brings itself alone
+      alone : (e : Event) → foldl (model.stepOf T f (live .words)) (modelOf m) (brings (m .seen) (m .expected) e) ≡ model.stepOf T f (live .words) (modelOf m) (eventOf e)
+      alone e = ap (λ (s : Bool). foldl (model.stepOf T f (live .words)) (modelOf m) (brings s (m .expected) e)) first
 
-  -- AT A LATER RESTART it plays no part how the pairs held were split: from two states that hold the same pairs the step goes to the same sets
-  pub restart-any : (live : Pairs) (m other : Monitor) (e : Event) → e .new ≡ true → m .seen ≡ true → other .seen ≡ true
+  -- AT A LATER RESTART it plays no part how the pairs held were split: from two states that hold the same pairs and expect the same number the step goes to the same sets
+  pub restart-any : (live : Pairs) (m other : Monitor) (e : Event) → e .new ≡ true → m .seen ≡ true → other .seen ≡ true → m .expected ≡ other .expected
       → ((s v : ℕ) → ((b : Bool) × Sides m b s v) ↔ ((b : Bool) × Sides other b s v))
       → Accepts (stepCall p fair label next rule live m e .answer) → Accepts (stepCall p fair label next rule live other e .answer) → (b : Bool) (s v : ℕ)
       → inside (sideOf (stepCall p fair label next rule live m e .monitor) b) s v ≡ inside (sideOf (stepCall p fair label next rule live other e .monitor) b) s v
-  restart-any live m other e new came came' same a a' b s v =
-      says-same (Iff·trans (step-any live m e a .holds b s v) (turned m other came came' (λ s v. same s v .0), turned other m came' came (λ s v. same s v .1)))
+  restart-any live m other e new came came' expects same a a' b s v =
+      says-same (Iff·trans (step-any live m e a .holds b s v) (turned m other came came' expects (λ s v. same s v .0), turned other m came' came (sym expects) (λ s v. same s v .1)))
       (step-any live other e a' .holds b s v)
     where
-      turned : (m other : Monitor) → m .seen ≡ true → other .seen ≡ true → ((s v : ℕ) → ((b : Bool) × Sides m b s v) → (b : Bool) × Sides other b s v)
-          → Stays T f (Of live) (Sides m) (m .seen) (eventOf e) b s v → Stays T f (Of live) (Sides other) (other .seen) (eventOf e) b s v
-      turned m other came came' held = rw (came, came', new) (λ (i, g, o). (i, g, split-anew T f (Sides m) (Sides other) held b s v o))
+      Behind : Monitor → Bool → ℕ → Type 0
+      Behind m seen n = StaysOn T f (Of live) (Sides m) seen (brings seen n e) b s v
+
+      turned : (m other : Monitor) → m .seen ≡ true → other .seen ≡ true → m .expected ≡ other .expected
+          → ((s v : ℕ) → ((b : Bool) × Sides m b s v) → (b : Bool) × Sides other b s v) → Behind m (m .seen) (m .expected) → Behind other (other .seen) (other .expected)
+      turned m other came came' expects held o =
+          let n = other .expected in
+          subst (λ (c : Bool). Behind other c n) (sym came')
+          (restart-more T f (Of live) (missingOf true n (numberOf (e .num) n)) (eventOf e) new (Sides m) (Sides other) held b s v
+          (subst (λ (n : ℕ). Behind m true n) expects (subst (λ (c : Bool). Behind m c (m .expected)) came o)))

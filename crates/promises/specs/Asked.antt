@@ -1,11 +1,11 @@
 -- What the other calls answer behind a log (01, demand 3): `look` shows the lamp once more; and `witness`, lent a buffer of the room it asks for, writes a run of the asked
 -- kind where there is one, and is refused by 13 where there is none.
-use Prim.Native.Nat.{ℕ, _≤_, _<_}
+use Prim.Native.Nat.{ℕ, _+_, _^_, _≤_, _<_}
 use native.Mathlib.Omega.{arith}
 use mathlib.Core.Path.{_≡_, refl, sym, ap, subst, _∙_}
 use mathlib.Core.Logic.{_↔_, Iff·trans, inr}
-use mathlib.Core.Bool.{Bool, true, false, cond, not}
-use mathlib.Core.List.{List, [], _∷_, _++_, map}
+use mathlib.Core.Bool.{Bool, true, false, not}
+use mathlib.Core.List.{List, [], _∷_, _++_}
 use lib.Dec.{ltb}
 use lib.ListN.{length}
 use borrow.Author.Tests.{le-ltb}
@@ -31,22 +31,22 @@ use Rattle.model.specs.Log as log
 use Rattle.model.specs.Witness.{hasLive, witness-says}
 use Rattle.answers.specs.declared.Kind.the-variants.{Room, NoPair}
 use Rattle.answers.specs.declared.Outcome.{Outcome}
-use Rattle.answers.specs.declared.Outcome.the-variants.{Accepted}
+use Rattle.answers.specs.declared.Outcome.the-variants.{Accepted, Refused}
 use Rattle.answers.specs.Paper.{refusedAt}
 use Rattle.answers.specs.Chain.{refusedAs, differ, unless, chain-accepts, chain-refuses, unless-accepts, unless-refuses}
 use Rattle.plant.specs.declared.Plant.{Plant}
 use Rattle.syntax.specs.declared.Rule.{Rule}
 use Rattle.log.specs.declared.Event.{Event}
-use Rattle.log.specs.Legal.{legalOf, legal-exactly}
 use Rattle.checks.specs.Input.{Input}
 use Rattle.advance.specs.declared.Monitor.{Monitor}
-use Rattle.advance.specs.Held.{modelOf, eventOf}
+use Rattle.advance.specs.Held.{modelOf}
+use Rattle.advance.specs.Numbers.{numberOf, eventOutcome}
 use Rattle.monitor.specs.declared.Watched.{Watched}
 use Rattle.monitor.specs.Calls.{lampOf, lit, lookCall, openCall}
-use Rattle.monitor.specs.Promises.{look-accepted}
+use Rattle.monitor.specs.Promises.{Fits, look-accepted}
 use Rattle.watching.specs.Watching as watching
-use Rattle.watching.specs.Watching.{AllLegal, legalOnes, after-any, after-model}
-use Rattle.walk.specs.declared.Lengths.{Lengths}
+use Rattle.watching.specs.Filled.{expectedFrom, filled}
+use Rattle.watching.specs.Watching.{TakenFrom, AllTaken, takenOnes, event-says, after-any, after-model}
 use Rattle.witness.specs.declared.Witnessed.{Witnessed}
 use Rattle.witness.specs.declared.Witnessed.the-variants as Answers
 use Rattle.witness.specs.Calls.{AnsweredAs, Answered, askedOf, witnessOutcome}
@@ -71,22 +71,34 @@ module _ (p : Plant) (fair label next : List ℕ) (rule : Rule) (given : Input p
   abbrev f : Formula
   f = watching.f p fair label next rule
 
-  module _ (es : List Event) (legal : AllLegal p fair label next rule es) where
+  -- behind accepted events the number expected is at most 2 ^ 32
+  expected-low : (seen : Bool) (n : ℕ) (es : List Event) → TakenFrom p fair label next rule seen n es → n ≤ 2 ^ 32 → expectedFrom n es ≤ 2 ^ 32
+  expected-low seen n [] all low = low
+  expected-low seen n (e ∷ es) (t, ts) low = expected-low true (numberOf (e .num) n + 1) es ts (omega (arith, t .1 .number))
+
+  module _ (es : List Event) (taken : AllTaken p fair label next rule es) where
     abbrev h : History
-    h = since (map eventOf es)
+    h = since (filled es)
 
     -- the monitor that the calls give, and the model's
     abbrev m : Monitor
     m = watching.after p fair label next rule es .monitor
 
     abbrev seen : model.Monitor
-    seen = log.watched T f (map eventOf es)
+    seen = log.watched T f (filled es)
 
     is-seen : modelOf m ≡ seen
-    is-seen = ap (λ (w : Watched). modelOf (w .monitor)) (after-model p fair label next rule given es legal)
+    is-seen = ap (λ (w : Watched). modelOf (w .monitor)) (after-model p fair label next rule given es taken)
 
     sets : (b : Bool) → PairSet T f (model.side (modelOf m) b)
-    sets b = subst (λ (x : model.Monitor). PairSet T f (model.side x b)) (sym is-seen) (log.log-means T f (given .table) (given .few) (map eventOf es) .sets b)
+    sets b = subst (λ (x : model.Monitor). PairSet T f (model.side x b)) (sym is-seen) (log.log-means T f (given .table) (given .few) (filled es) .sets b)
+
+    -- numbers are left, or used up
+    low : m .expected ≤ 2 ^ 32
+    low = subst (λ (w : Watched). w .monitor .expected ≤ 2 ^ 32) (sym (after-model p fair label next rule given es taken)) (expected-low false 0 es taken (omega arith))
+
+    fits : Fits p fair label next rule (watching.full p fair label next rule given) m
+    fits = (sets true, (sets false, low))
 
     -- ---- looking
 
@@ -94,8 +106,8 @@ module _ (p : Plant) (fair label next : List ℕ) (rule : Rule) (given : Input p
     pub look-same : lookCall p fair label next rule m ≡ watching.after p fair label next rule es .answer
     unfolding lookCall
     look-same =
-        ap (λ (o : Outcome). lit o (modelOf m)) (look-accepted p fair label next rule (watching.full p fair label next rule given) m .1 (given, (sets true, sets false)))
-        ∙ ap lampOf is-seen ∙ sym (ap (λ (w : Watched). w .answer) (after-model p fair label next rule given es legal))
+        ap (λ (o : Outcome). lit o (modelOf m)) (look-accepted p fair label next rule (watching.full p fair label next rule given) m .1 (given, fits))
+        ∙ ap lampOf is-seen ∙ sym (ap (λ (w : Watched). w .answer) (after-model p fair label next rule given es taken))
 
     -- ---- asking for a run
 
@@ -105,14 +117,14 @@ module _ (p : Plant) (fair label next : List ℕ) (rule : Rule) (given : Input p
     seen-live b = (
       λ e.
           let (L, w) = witness-says T f (given .table) (given .few) (model.side seen b) .0 e in
-          let (walk, _, c) = log.log-witness T f (given .table) (given .few) (map eventOf es) b L w in
+          let (walk, _, c) = log.log-witness T f (given .table) (given .few) (filled es) b L w in
           (walkThen walk L, c),
       λ (L, c).
           let s = stateAt L (now h) in
           let v = valuesAt T f L (now h) in
           let q = pair-of T f L (c .run .walk) (now h) in
           let a : At T f b h s v = record { lasso = L; chosen = c; pair = q } in
-          let i = log.log-sets T f (given .table) (given .few) (map eventOf es) b s v .1 a in
+          let i = log.log-sets T f (given .table) (given .few) (filled es) b s v .1 a in
           let l = live-says T f (given .table) (given .few) s v .1 (pair-live T f L (now h) s v (c .run .walk) q) in
           let low : v < 64 = (let k = q .small in let n = valuations-few f (given .few) in omega arith) in
           rw (occupied (meetOf (model.side seen b) (liveSet T f)) s v low (meet-says (model.side seen b) (liveSet T f) s v .1 (low, (i, l)))),
@@ -129,7 +141,7 @@ module _ (p : Plant) (fair label next : List ℕ) (rule : Rule) (given : Input p
         unfolding askedOf
         asked =
             chain-accepts _ (unless (not (ltb room 49152)) Room) .1 (
-              look-accepted p fair label next rule (watching.full p fair label next rule given) m .1 (given, (sets true, sets false)),
+              look-accepted p fair label next rule (watching.full p fair label next rule given) m .1 (given, fits),
               unless-accepts (not (ltb room 49152)) Room .1 (ap not (le-ltb room 49152 enough)),
             )
 
@@ -160,7 +172,7 @@ module _ (p : Plant) (fair label next : List ℕ) (rule : Rule) (given : Input p
         pub run-written : Possible T f h b → GoesOn T f h b before bytes r
         run-written q =
             let (l, is, s) = subst As (witness-exactly (length before) enough .1 q) answered in
-            let (walk, long, c) = witness-goes-on p fair label next rule given es legal b (s .lasso) (s .witness) in
+            let (walk, long, c) = witness-goes-on p fair label next rule given es taken b (s .lasso) (s .witness) in
             record {
               lasso = s .lasso;
               lengths = is ∙ ap Answers.Run (λ i. record { stem = sym (s .stem-is) i; turn = sym (s .turn-is) i });
@@ -182,22 +194,26 @@ module _ (p : Plant) (fair label next : List ℕ) (rule : Rule) (given : Input p
 
   -- ---- with refused events among them
 
-  ones-legal : (es : List Event) → AllLegal p fair label next rule (legalOnes p fair label next rule es)
-  unfolding legalOnes
-  ones-legal [] = tt
-  ones-legal (e ∷ es) = by (ones-legal es) (legalOf e (p .props)) refl
+  -- the accepted ones are all taken
+  abbrev ones : List Event → List Event
+  ones es = takenOnes p fair label next rule false 0 es
+
+  ones-taken : (seen : Bool) (expected : ℕ) (es : List Event) → TakenFrom p fair label next rule seen expected (takenOnes p fair label next rule seen expected es)
+  unfolding takenOnes
+  ones-taken seen expected [] = tt
+  ones-taken seen expected (e ∷ es) = by (ones-taken true (numberOf (e .num) expected + 1) es) (ones-taken seen expected es) (eventOutcome e (p .props) seen expected) refl
     where
-      by : AllLegal p fair label next rule (legalOnes p fair label next rule es) → (b : Bool) → legalOf e (p .props) ≡ b
-          → AllLegal p fair label next rule (cond b (e ∷ legalOnes p fair label next rule es) (legalOnes p fair label next rule es))
-      by rest true l = (legal-exactly T e .0 l .1, rest)
-      by rest false l = rest
+      From : Bool → ℕ → List Event → Type 0
+      From seen n es = TakenFrom p fair label next rule seen n (takenOnes p fair label next rule seen n es)
+
+      by : From true (numberOf (e .num) expected + 1) es → From seen expected es → (o : Outcome) → eventOutcome e (p .props) seen expected ≡ o → From seen expected (e ∷ es)
+      by behind other Accepted ok = rw ok (event-says p fair label next rule given e seen expected .0 ok, behind)
+      by behind other (Refused r) bad = rw bad other
 
   -- whatever events came, the monitor is the one behind those accepted. So what is said above holds of it
-  pub monitor-any : (es : List Event) → watching.after p fair label next rule es .monitor ≡ watching.after p fair label next rule (legalOnes p fair label next rule es) .monitor
-  monitor-any es =
-      let ones = legalOnes p fair label next rule es in
-      after-any p fair label next rule given es ∙ sym (ap (λ (w : Watched). w .monitor) (after-model p fair label next rule given ones (ones-legal es)))
+  pub monitor-any : (es : List Event) → watching.after p fair label next rule es .monitor ≡ watching.after p fair label next rule (ones es) .monitor
+  monitor-any es = after-any p fair label next rule given es ∙ sym (ap (λ (w : Watched). w .monitor) (after-model p fair label next rule given (ones es) (ones-taken false 0 es)))
 
   -- and a look shows the lamp of the last accepted call
-  pub look-any : (es : List Event) → lookCall p fair label next rule (watching.after p fair label next rule es .monitor) ≡ watching.after p fair label next rule (legalOnes p fair label next rule es) .answer
-  look-any es = ap (lookCall p fair label next rule) (monitor-any es) ∙ look-same (legalOnes p fair label next rule es) (ones-legal es)
+  pub look-any : (es : List Event) → lookCall p fair label next rule (watching.after p fair label next rule es .monitor) ≡ watching.after p fair label next rule (ones es) .answer
+  look-any es = ap (lookCall p fair label next rule) (monitor-any es) ∙ look-same (ones es) (ones-taken false 0 es)

@@ -6,3 +6,4 @@ pub mod Laws
 pub mod Asked
 pub mod OneAnswer
 pub mod Longest
+pub mod Numbers

@@ -30,8 +30,10 @@ use Rattle.syntax.specs.Value.{count, opsOf, nodesOf}
 use Rattle.reader.specs.Draft.{written}
 use Rattle.rule.specs.Reading.{unknown, unknownAt}
 use Rattle.log.specs.Legal.{legalOf}
-use Rattle.log.specs.Read.{logRead, eventAt}
+use Rattle.log.specs.Lead.{leading}
+use Rattle.log.specs.Read as log-read
 use Rattle.syntax.specs.Value.{formulaOf}
+use Rattle.advance.specs.Numbers.{inTurn, eventOutcome}
 use Rattle.promises.specs.ThreeTexts.{shownFor, Said, saidBy, modelShown, texts-shown}
 
 -- ---- texts
@@ -94,7 +96,7 @@ saidIn r = saidBy (r .table) (r .rule) (r .log)
 
 -- all texts are accepted, and read as the tables, rules and logs of model's table, by the readers' own definitions
 pub texts-read : map saidIn rows ≡ map (λ m. record { fine = true; on = m .on; rule = m .rule; log = m .log }) marked
-unfolding tableRead readAs unionBelow listBelow united widthOf digitOr0 hexSlots hexGuess leadOf nextOf lastOf countSlots countOf digitValue admits matched led ended both seen hex counted offset slotsBelow listed begun linesRead lineOr logRead eventAt signOf leafOf nameOf nameBytes lexSign lex head tail read more parse closes named teen scanFrom scan count opsOf nodesOf written unknown unknownAt decode formulaOf legalOf every
+unfolding tableRead readAs unionBelow listBelow united widthOf digitOr0 hexSlots hexGuess leadOf nextOf lastOf countSlots countOf digitValue admits matched led ended both seen hex counted offset slotsBelow listed begun linesRead lineOr leading log-read.isNumbered log-read.readAs log-read.eventAs signOf leafOf nameOf nameBytes lexSign lex head tail read more parse closes named teen scanFrom scan count opsOf nodesOf written unknown unknownAt decode formulaOf legalOf inTurn eventOutcome
 texts-read = refl
 
 -- so each is shown the model's lamp

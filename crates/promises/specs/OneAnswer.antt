@@ -108,11 +108,12 @@ module _ (κs : Lfts 4) (x : ArgsD in-place.signature κs) where
   pub step-in-place-one : (r r' : _) (u u' : _) → StepLearnt r u → StepLearnt r' u' → (r ≡ r') × (now (u .1 .1 .1 .1 .1 .1 .0) ≡ now (u' .1 .1 .1 .1 .1 .1 .0))
   step-in-place-one r r' u u' e e' = (e .0 ∙ sym (e' .0), e .1 ∙ sym (e' .1))
 
--- a log, with the verdicts and the numbers of states that it leaves in two lent parts
+-- a log, with the verdicts, the numbers of states and the numbers of events that it leaves in three lent parts
 pub follow-one :
     (κs : _) (x : _) (r r' : _) (u u' : _) → follow.Learnt κs x r u → follow.Learnt κs x r' u'
     → (r ≡ r') × (now (u .1 .1 .1 .1 .1 .1 .1 .1 .0) ≡ now (u' .1 .1 .1 .1 .1 .1 .1 .1 .0)) × (now (u .1 .1 .1 .1 .1 .1 .1 .1 .1 .0) ≡ now (u' .1 .1 .1 .1 .1 .1 .1 .1 .1 .0))
-follow-one κs x r r' u u' e e' = (e .went ∙ sym (e' .went), e .verdicts-are ∙ sym (e' .verdicts-are), e .lefts-are ∙ sym (e' .lefts-are))
+    × (now (u .1 .1 .1 .1 .1 .1 .1 .1 .1 .1 .0) ≡ now (u' .1 .1 .1 .1 .1 .1 .1 .1 .1 .1 .0))
+follow-one κs x r r' u u' e e' = (e .went ∙ sym (e' .went), e .verdicts-are ∙ sym (e' .verdicts-are), e .lefts-are ∙ sym (e' .lefts-are), e .numbers-are ∙ sym (e' .numbers-are))
 
 -- the program's whole output: how many bytes it has, and the buffer
 pub write-output-one :

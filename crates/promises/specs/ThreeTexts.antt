@@ -1,16 +1,15 @@
 -- The calls one after the other, from the bytes of a table, a rule and a log to the lamp behind the last event; and that for texts which are accepted it is the model's lamp for what
 -- they say. What the program writes of three files is said in FrontDoor; here stands what a caller is shown.
-use Prim.Native.Nat.{ℕ}
+use Prim.Native.Nat.{ℕ, _+_}
 use mathlib.Core.Path.{_≡_, refl, ap, _∙_}
 use mathlib.Core.Bool.{Bool, true, false, So, _&&_, false≢true}
-use mathlib.Core.List.{List, [], _∷_, map}
+use mathlib.Core.List.{List, [], _∷_}
 use lib.ListN.{take}
 use Rattle.words.specs.Below.{listBelow}
 use Rattle.words.specs.Truth.{and-says}
 use Rattle.meaning.specs.Formula.{Formula}
 use Rattle.meaning.specs.Run as run
 use Rattle.meaning.specs.Event as meaning
-use Rattle.meaning.specs.Step.{every}
 use Rattle.text.specs.Number.{widthOf}
 use Rattle.model.specs.Monitor as model
 use Rattle.model.specs.Log as model-log
@@ -28,14 +27,14 @@ use Rattle.rule.specs.Reading.{ruleRead}
 use Rattle.rule.specs.Promises.{accepted-exactly}
 use Rattle.log.specs.declared.Event.{Event}
 use Rattle.log.specs.declared.LogRead.{LogRead}
-use Rattle.log.specs.Legal.{legalOf, legal-exactly}
 use Rattle.log.specs.Read.{logRead, eventAt}
 use Rattle.syntax.specs.Value.{formulaOf}
 use Rattle.checks.specs.Input.{Input, given}
-use Rattle.advance.specs.Held.{eventOf}
+use Rattle.advance.specs.Numbers.{numberOf, eventOutcome}
 use Rattle.monitor.specs.declared.Watched.{Watched}
 use Rattle.monitor.specs.Promises.{lamp-paper}
-use Rattle.watching.specs.Watching.{after, AllLegal, after-model}
+use Rattle.watching.specs.Filled.{filled}
+use Rattle.watching.specs.Watching.{after, TakenFrom, event-says, after-model}
 
 -- ---- the calls
 
@@ -78,7 +77,12 @@ abbrev isAccepted : Outcome → Bool
 isAccepted Accepted = true
 isAccepted (Refused r) = false
 
--- a table, a rule and events, as `meaning` has them; and whether all three texts are accepted and each event is legal
+-- each event is accepted: it is legal, and its number in turn
+abbrev takesAll : ℕ → Bool → ℕ → List Event → Bool
+takesAll props seen expected [] = true
+takesAll props seen expected (e ∷ es) = isAccepted (eventOutcome e props seen expected) && takesAll props true (numberOf (e .num) expected + 1) es
+
+-- a table, a rule and events, as `meaning` has them, the unseen ones put in; and whether all three texts are accepted and so is each event
 pub record Said : Type 0 where
   pub fine : Bool
   pub on : run.Plant
@@ -86,15 +90,15 @@ pub record Said : Type 0 where
   pub log : List meaning.Event
 
 module _ (table rule log : List ℕ) where
-  abbrev legals : Bool
-  legals = every (λ e. legalOf e (t table rule log .plant .props)) (events table rule log)
+  abbrev taken : Bool
+  taken = takesAll (t table rule log .plant .props) false 0 (events table rule log)
 
   abbrev pub saidBy : Said
   saidBy = record {
-    fine = (isAccepted (tableRead table .outcome) && isAccepted (ruled table rule log .outcome)) && (isAccepted (logged table rule log .outcome) && legals);
+    fine = (isAccepted (tableRead table .outcome) && isAccepted (ruled table rule log .outcome)) && (isAccepted (logged table rule log .outcome) && taken);
     on = plantOf (t table rule log .plant) (fair table rule log) (label table rule log) (next table rule log);
     rule = formulaOf (ruled table rule log .rule);
-    log = map eventOf (events table rule log);
+    log = filled (events table rule log);
   }
 
 -- the lamp of the model
@@ -107,12 +111,12 @@ accepted-is : (o : Outcome) → So (isAccepted o) → o ≡ Accepted
 accepted-is Accepted so = refl
 accepted-is (Refused r) so = absurd (false≢true so)
 
-all-legal : (p : Plant) (fair label next : List ℕ) (rule : Rule) (es : List Event) → So (every (λ e. legalOf e (p .props)) es) → AllLegal p fair label next rule es
-unfolding every
-all-legal p fair label next rule [] so = tt
-all-legal p fair label next rule (e ∷ es) so =
-    let (first, others) = and-says (legalOf e (p .props)) (every (λ e. legalOf e (p .props)) es) .0 so in
-    (legal-exactly (plantOf p fair label next) e .0 first .1, all-legal p fair label next rule es others)
+all-taken : (p : Plant) (fair label next : List ℕ) (rule : Rule) → Input p fair label next rule → (seen : Bool) (expected : ℕ) (es : List Event) → So (takesAll (p .props) seen expected es)
+    → TakenFrom p fair label next rule seen expected es
+all-taken p fair label next rule input seen expected [] so = tt
+all-taken p fair label next rule input seen expected (e ∷ es) so =
+    let (first, others) = and-says (isAccepted (eventOutcome e (p .props) seen expected)) (takesAll (p .props) true (numberOf (e .num) expected + 1) es) .0 so in
+    (event-says p fair label next rule input e seen expected .0 (accepted-is _ first), all-taken p fair label next rule input true (numberOf (e .num) expected + 1) es others)
 
 module _ (table rule log : List ℕ) (fine : So (saidBy table rule log .fine)) where
   abbrev p : Plant
@@ -135,14 +139,14 @@ module _ (table rule log : List ℕ) (fine : So (saidBy table rule log .fine)) w
 
   -- one by one
   tests :
-      So (isAccepted (tableRead table .outcome) && isAccepted (ruled table rule log .outcome)) × So (isAccepted (logged table rule log .outcome) && legals table rule log)
-  tests = and-says (isAccepted (tableRead table .outcome) && isAccepted (ruled table rule log .outcome)) (isAccepted (logged table rule log .outcome) && legals table rule log) .0 fine
+      So (isAccepted (tableRead table .outcome) && isAccepted (ruled table rule log .outcome)) × So (isAccepted (logged table rule log .outcome) && taken table rule log)
+  tests = and-says (isAccepted (tableRead table .outcome) && isAccepted (ruled table rule log .outcome)) (isAccepted (logged table rule log .outcome) && taken table rule log) .0 fine
 
   first-two : So (isAccepted (tableRead table .outcome)) × So (isAccepted (ruled table rule log .outcome))
   first-two = and-says (isAccepted (tableRead table .outcome)) (isAccepted (ruled table rule log .outcome)) .0 (tests .0)
 
-  last-two : So (isAccepted (logged table rule log .outcome)) × So (legals table rule log)
-  last-two = and-says (isAccepted (logged table rule log .outcome)) (legals table rule log) .0 (tests .1)
+  last-two : So (isAccepted (logged table rule log .outcome)) × So (taken table rule log)
+  last-two = and-says (isAccepted (logged table rule log .outcome)) (taken table rule log) .0 (tests .1)
 
   table-ok : tableRead table .outcome ≡ Accepted
   table-ok = accepted-is (tableRead table .outcome) (first-two .0)
@@ -161,5 +165,5 @@ module _ (table rule log : List ℕ) (fine : So (saidBy table rule log .fine)) w
   pub texts-shown : shownFor table rule log ≡ modelShown (saidBy table rule log)
   texts-shown =
       rw (table-ok, rule-ok, log-ok)
-      (ap (λ (w : Watched). paper (w .answer)) (after-model p fs ls ns r input es (all-legal p fs ls ns r es (last-two .1)))
+      (ap (λ (w : Watched). paper (w .answer)) (after-model p fs ls ns r input es (all-taken p fs ls ns r input false 0 es (last-two .1)))
       ∙ lamp-paper (model-log.watched (saidBy table rule log .on) (saidBy table rule log .rule) (saidBy table rule log .log)))

@@ -14,7 +14,7 @@ use Rattle.pairs.specs.declared.Pairs.{Pairs}
 use Rattle.pairs.specs.Sets.{inside}
 use Rattle.model.specs.Monitor.{side}
 use Rattle.answers.specs.declared.Kind.{Kind}
-use Rattle.answers.specs.declared.Kind.the-variants.{Counts, Bits, Value, IllegalEvent, Room, NoPair}
+use Rattle.answers.specs.declared.Kind.the-variants.{Counts, Bits, Value, IllegalEvent, Room, NoPair, Number}
 use Rattle.answers.specs.Paper.{Paper, refused}
 use Rattle.plant.specs.declared.Plant.{Plant}
 use Rattle.plant.specs.Table.{plantOf, Lengths, BitBeyond}
@@ -27,6 +27,7 @@ use Rattle.log.specs.declared.Event.{Event}
 use Rattle.log.specs.Legal.{seenOf}
 use Rattle.advance.specs.declared.Monitor.{Monitor}
 use Rattle.advance.specs.Held.{modelOf}
+use Rattle.advance.specs.Numbers.{numberOf, InTurn}
 
 -- ---- a table of causes
 
@@ -85,13 +86,17 @@ module _ (p : Plant) (fair label next : List ℕ) (rule : Rule) where
     pub held : So (inside (set .words) state values)
     pub beyond : (p .states ≤ state) ⊎ (2 ^ parts formula ≤ values)
 
-  -- 9, of a monitor's state
+  -- 9, of a monitor's state: such a pair in one of its sets, or it expects a number behind 2 ^ 32, by which it says that none is left (02, h)
   abbrev pub StateBeyond : Monitor → Type 0
-  StateBeyond m = PairBeyond (m .keeps) ⊎ PairBeyond (m .breaks)
+  StateBeyond m = PairBeyond (m .keeps) ⊎ (PairBeyond (m .breaks) ⊎ (2 ^ 32 < m .expected))
 
   -- 10
   abbrev pub Illegal : Event → Type 0
   Illegal e = Legal table (seenOf e) → ⊥
+
+  -- 16: the number that the event takes is not in turn (02, h)
+  abbrev pub OutOfTurn : Monitor → Event → Type 0
+  OutOfTurn m e = InTurn (m .seen) (m .expected) (numberOf (e .num) (m .expected)) → ⊥
 
   -- 13: no pair of the asked set is live
   abbrev pub NoLive : Monitor → Bool → Type 0
@@ -102,7 +107,7 @@ module _ (p : Plant) (fair label next : List ℕ) (rule : Rule) where
   causes prepare = ofTable (row Value NoRule end)
   causes (opening live) = ofTable (row Value (NoRule ⊎ PairBeyond live) end)
   causes (look m) = ofTable (row Value (NoRule ⊎ StateBeyond m) end)
-  causes (step live m e) = ofTable (row Value (NoRule ⊎ (PairBeyond live ⊎ StateBeyond m)) (row IllegalEvent (Illegal e) end))
+  causes (step live m e) = ofTable (row Value (NoRule ⊎ (PairBeyond live ⊎ StateBeyond m)) (row IllegalEvent (Illegal e) (row Number (OutOfTurn m e) end)))
   causes (witness m keeps buffer) = ofTable (row Value (NoRule ⊎ StateBeyond m) (row Room (length buffer < 49152) (row NoPair (NoLive m keeps) end)))
 
 -- ---- the printer

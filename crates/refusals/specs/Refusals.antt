@@ -27,7 +27,7 @@ use Rattle.model.specs.Lives.{live-says}
 use Rattle.model.specs.Reaching.{meet-says}
 use Rattle.model.specs.Witness.{hasLive}
 use Rattle.answers.specs.declared.Kind.{Kind}
-use Rattle.answers.specs.declared.Kind.the-variants.{Counts, Bits, Value, IllegalEvent, Room, NoPair}
+use Rattle.answers.specs.declared.Kind.the-variants.{Counts, Bits, Value, IllegalEvent, Room, NoPair, Number}
 use Rattle.answers.specs.declared.Outcome.{Outcome}
 use Rattle.answers.specs.declared.Outcome.the-variants.{Accepted, Refused}
 use Rattle.answers.specs.Paper.{Paper, refused, kindNumber, paper, outcome}
@@ -45,14 +45,16 @@ use Rattle.rule.specs.Valid.{validOf, RuleValue}
 use Rattle.rule.specs.Printing.{topText, textOf, noPrint, printAnswer}
 use Rattle.rule.specs.OnPaper.{printed}
 use Rattle.rule.specs.Values.{valid-exactly, decoded}
+use Rattle.log.specs.declared.Event.{Event}
 use Rattle.log.specs.Legal.{seenOf}
 use Rattle.checks.specs.Checks.{inputOutcome}
 use Rattle.checks.specs.Input.{Input, given, formula-is}
 use Rattle.advance.specs.declared.Monitor.{Monitor}
 use Rattle.advance.specs.Held.{modelOf}
+use Rattle.advance.specs.Numbers.{numberOf, inTurn, in-turn-says}
 use Rattle.live.specs.Prepare.{preparedOf}
 use Rattle.live.specs.Promises.{prepare-outcome}
-use Rattle.monitor.specs.Calls.{watched, lit, checkedOf, openCall, lookCall, stepChecked, stepCall}
+use Rattle.monitor.specs.Calls.{watched, lit, checkedOf, openCall, monitorFits, lookCall, stepChecked, stepCall}
 use Rattle.witness.specs.declared.Witnessed.{Witnessed}
 use Rattle.witness.specs.Calls.{AnsweredAs, Answered, askedOf, witnessOutcome}
 use Rattle.witness.specs.OnPaper.{witnessed}
@@ -76,6 +78,7 @@ use Rattle.refusals.specs.Causes.{
   NoRule,
   PairBeyond,
   StateBeyond,
+  OutOfTurn,
   NoLive,
   causes,
   printCauses,
@@ -122,9 +125,9 @@ outcome-tells : (o : Outcome) → Tells (outcome o) o
 outcome-tells Accepted = accepted-taken _
 outcome-tells (Refused r) = refl
 
-watched-tells : (o : Outcome) (old : Monitor) (new : model.Monitor) → Tells (paper (watched o old new .answer)) o
-watched-tells Accepted old new = verdict-taken _ _
-watched-tells (Refused r) old new = refl
+watched-tells : (o : Outcome) (old : Monitor) (expected : ℕ) (new : model.Monitor) → Tells (paper (watched o old expected new .answer)) o
+watched-tells Accepted old expected new = verdict-taken _ _
+watched-tells (Refused r) old expected new = refl
 
 lit-tells : (o : Outcome) (m : model.Monitor) → Tells (paper (lit o m)) o
 lit-tells Accepted m = verdict-taken _ _
@@ -155,7 +158,7 @@ module _ (p : Plant) (fair label next : List ℕ) (rule : Rule) where
   fits set = pairsOk T f (set .words)
 
   abbrev stateFits : Monitor → Bool
-  stateFits m = fits (m .keeps) && fits (m .breaks)
+  stateFits m = monitorFits p fair label next rule m
 
   -- ---- the checks of each call, and that its answer tells them
 
@@ -169,9 +172,9 @@ module _ (p : Plant) (fair label next : List ℕ) (rule : Rule) where
   tells : (c : Call) (a : Paper) → Answers c a → Tells a (checksOf c)
   unfolding openCall lookCall stepCall
   tells prepare a e = subst (λ (a : Paper). Tells a (checksOf prepare)) (sym (e ∙ ap outcome (prepare-outcome p fair label next rule))) (outcome-tells (checksOf prepare))
-  tells (opening live) a e = subst (λ (a : Paper). Tells a (checksOf (opening live))) (sym e) (watched-tells (checksOf (opening live)) _ _)
+  tells (opening live) a e = subst (λ (a : Paper). Tells a (checksOf (opening live))) (sym e) (watched-tells (checksOf (opening live)) _ _ _)
   tells (look m) a e = subst (λ (a : Paper). Tells a (checksOf (look m))) (sym e) (lit-tells (checksOf (look m)) _)
-  tells (step live m x) a e = subst (λ (a : Paper). Tells a (checksOf (step live m x))) (sym e) (watched-tells (checksOf (step live m x)) _ _)
+  tells (step live m x) a e = subst (λ (a : Paper). Tells a (checksOf (step live m x))) (sym e) (watched-tells (checksOf (step live m x)) _ _ _)
   tells (witness m keeps buffer) a (r, now, h, e) = subst (λ (a : Paper). Tells a (checksOf (witness m keeps buffer))) (sym e) (answered-tells T f (model.side (modelOf m) keeps) buffer now r (checksOf (witness m keeps buffer)) h)
 
   -- ---- the tests, and what they find
@@ -208,7 +211,16 @@ module _ (p : Plant) (fair label next : List ℕ) (rule : Rule) where
           ⊎-elim (λ (h : p .states ≤ b .state). omega arith) (λ (h : 2 ^ parts f ≤ b .values). omega arith) (b .beyond)
 
   finds-state : (m : Monitor) → Full (m .keeps) × Full (m .breaks) → Finds (stateFits m) (StateBeyond p fair label next rule m)
-  finds-state m (k, b) = finds-either (finds-beyond (m .keeps) k) (finds-beyond (m .breaks) b)
+  finds-state m (k, b) = finds-either (finds-beyond (m .keeps) k) (finds-either (finds-beyond (m .breaks) b) beyond-last)
+    where
+      beyond-last : Finds (leb (m .expected) (2 ^ 32)) (2 ^ 32 < m .expected)
+      beyond-last = record {
+        fails = leb-false (m .expected) (2 ^ 32);
+        holds = λ e high. let low = le-says (m .expected) (2 ^ 32) .0 e in omega (arith, low, high);
+      }
+
+  finds-turn : (m : Monitor) (e : Event) → Finds (inTurn (m .seen) (m .expected) (numberOf (e .num) (m .expected))) (OutOfTurn p fair label next rule m e)
+  finds-turn m e = finds-not (in-turn-says (m .seen) (m .expected) (numberOf (e .num) (m .expected)))
 
   finds-live : Input p fair label next rule → (m : Monitor) (keeps : Bool) → Finds (hasLive T f (model.side (modelOf m) keeps)) (NoLive p fair label next rule m keeps)
   unfolding hasLive
@@ -290,7 +302,9 @@ module _ (p : Plant) (fair label next : List ℕ) (rule : Rule) where
     judged prepare z = ended (subst (Judged _) (sym (in-turn checked (unless valid Value) Accepted)) (judged-table (λ e. judged-row Value valid finds-rule (λ so. judged-end))))
     judged (opening live) z = ended (judged-value (finds-beyond live z) (λ i. judged-end))
     judged (look m) z = ended (judged-value (finds-state m z) (λ i. judged-end))
-    judged (step live m e) (l, z) = judged-value (finds-either (finds-beyond live l) (finds-state m z)) (λ i. ended (judged-row IllegalEvent _ (finds-not (legal-says T (seenOf e))) (λ so. judged-end)))
+    judged (step live m e) (l, z) =
+        judged-value (finds-either (finds-beyond live l) (finds-state m z))
+        (λ i. judged-row IllegalEvent _ (finds-not (legal-says T (seenOf e))) (λ so. ended (judged-row Number _ (finds-turn m e) (λ so. judged-end))))
     judged (witness m keeps buffer) z =
         subst (Judged _) (sym (in-turn (checkedOf p fair label next rule (stateFits m)) _ _))
         (judged-value (finds-state m z) (λ i. judged-row Room _ (finds-so (lt-says (length buffer) 49152)) (λ so. ended (judged-row NoPair _ (finds-live i m keeps) (λ so. judged-end)))))
