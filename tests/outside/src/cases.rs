@@ -1,7 +1,7 @@
 //! Seeded cases: plants, rules and logs, good and damaged, and what may stand in the place of a file.
 
 use crate::dice::Dice;
-use crate::log::Event;
+use crate::log::{Event, UNSEEN};
 use crate::pairs::{Graph, Monitor, Verdict};
 use crate::plant::{digits, Plant};
 use crate::rule::Rule;
@@ -148,7 +148,7 @@ pub fn rule(dice: &mut Dice, props: usize, parts: usize) -> String {
 
 fn event_at(dice: &mut Dice, plant: &Plant, s: usize, sight: usize, new: bool) -> Event {
     let see = (0..plant.props).fold(0u16, |m, p| m | (dice.chance(sight) as u16) << p);
-    Event { see, val: plant.label[s] & see, new }
+    Event { num: None, see, val: plant.label[s] & see, new }
 }
 
 /// A log that follows a walk through the plant, with some restarts and, now and then, a sight that does not fit. At a restart it may jump to the start.
@@ -175,6 +175,21 @@ pub fn log(dice: &mut Dice, plant: &Plant, length: usize) -> Vec<Event> {
         s = if ways.is_empty() { s } else { *dice.pick(&ways) };
     }
     events
+}
+
+/// The events with numbers, as a radio brings them: some are lost on the way, but not the first.
+fn numbered(dice: &mut Dice, events: &[Event]) -> Vec<Event> {
+    let drawn = dice.word() >> 33;
+    let first = *dice.pick(&[0, 0, 1, 9, 250, 65530, u32::MAX as u64 + 1 - events.len() as u64, drawn]);
+    let lost = *dice.pick(&[0, 15, 40]);
+    let number = |k: usize| (first + k as u64).min(u32::MAX as u64) as u32;
+    let all = events.iter().enumerate().map(|(k, e)| Event { num: Some(number(k)), ..*e });
+    all.enumerate().filter(|(k, _)| *k == 0 || !dice.chance(lost)).map(|(_, e)| e).collect()
+}
+
+/// The same events, sometimes with numbers.
+fn as_sent(dice: &mut Dice, events: Vec<Event>) -> Vec<Event> {
+    if dice.chance(40) { numbered(dice, &events) } else { events }
 }
 
 fn log_text(props: usize, events: &[Event]) -> Vec<u8> {
@@ -241,6 +256,7 @@ fn plain(dice: &mut Dice) -> Files {
     let (states, parts) = *dice.pick(&[(1, 6), (2, 5), (3, 6), (4, 3), (5, 6), (7, 4), (9, 3), (16, 3), (24, 2), (40, 2), (64, 1)]);
     let length = *dice.pick(&[0, 1, 2, 5, 12, 30]);
     let (plant, rule, log) = good(dice, states, parts, length);
+    let log = as_sent(dice, log);
     let mut files = files(&plant, &rule, &log);
     if dice.chance(40) {
         bytes(&mut files.rule).push(b'\n');
@@ -252,6 +268,7 @@ fn small(dice: &mut Dice) -> Files {
     let states = dice.from(1, 4);
     let length = dice.from(0, 8);
     let (plant, rule, log) = good(dice, states, 3, length);
+    let log = as_sent(dice, log);
     files(&plant, &rule, &log)
 }
 
@@ -324,6 +341,7 @@ fn capitals(dice: &mut Dice) -> Files {
             break drawn;
         }
     };
+    let log = as_sent(dice, log);
     let mut files = files(&plant, &rule, &log);
     for file in [&mut files.plant, &mut files.log] {
         let share = *dice.pick(&[20, 60, 100]);
@@ -443,17 +461,49 @@ fn damaged_log(dice: &mut Dice) -> Files {
         match dice.below(3) {
             0 => log[k].see |= (1u32 << dice.from(plant.props, 4 * digits(plant.props))) as u16,
             1 => log[k].val |= !log[k].see & dice.word() as u16 & room,
-            _ => log[k] = Event { see: dice.word() as u16 & room, val: dice.word() as u16 & room, new: false },
+            _ => log[k] = Event { see: dice.word() as u16 & room, val: dice.word() as u16 & room, new: false, ..log[k] },
         }
     }
+    let log = as_sent(dice, log);
     let mut files = files(&plant, &rule, &log);
     let text = bytes(&mut files.log);
     if dice.chance(15) {
         text.pop();
     } else if dice.chance(60) {
-        damage(dice, text, b"0123456789abcdefgABFG= \n\rsevalnw");
+        damage(dice, text, b"0123456789abcdefgABFG= \n\rsevalnwum");
     }
     files
+}
+
+/// Numbers that skip, come again, go back, come to an end or are left out of some lines; some of these at an event that is not legal either.
+fn numbers(dice: &mut Dice) -> Files {
+    let states = dice.from(1, 5);
+    let length = *dice.pick(&[2, 4, 9, 25, 40]);
+    let (plant, rule, log) = good(dice, states, 2, length);
+    let mut log = numbered(dice, &log);
+    for _ in 0..dice.from(1, 2) {
+        let k = dice.below(log.len());
+        let number = log[k].num.unwrap_or(0);
+        let before = if k > 0 { log[k - 1].num.unwrap_or(0) } else { number };
+        match dice.below(9) {
+            0 | 1 if log.len() > 20 => {
+                let many = dice.from(14, 18);
+                log.drain(1..1 + many);
+            }
+            0 | 1 => (k..log.len()).for_each(|i| log[i].num = log[i].num.map(|n| n.saturating_add(15))),
+            2 => log[k].num = Some(before),
+            3 => log[k].num = Some(before.saturating_sub(dice.from(1, 20) as u32)),
+            4 | 5 => log[k].num = Some(before.saturating_add(dice.from(15, 19) as u32)),
+            6 => (0..log.len()).for_each(|i| log[i].num = Some(if i <= k { u32::MAX - (k - i) as u32 } else { (i - k - 1) as u32 })),
+            7 => log[k].num = None,
+            _ => {
+                log[k].see &= !1;
+                log[k].val |= 1;
+                log[k].num = Some(if dice.chance(50) { before.saturating_add(40) } else { number });
+            }
+        }
+    }
+    files(&plant, &rule, &log)
 }
 
 /// Texts of exactly the sizes at which something changes.
@@ -461,9 +511,10 @@ fn sizes(dice: &mut Dice) -> Files {
     let (plant, rule, log) = good(dice, 2, 2, 3);
     let mut files = files(&plant, &rule, &log);
     let pad = |n: usize| { let mut t = b"p0".to_vec(); t.resize(n, b' '); t };
-    let line = log_text(plant.props, &[Event { see: 0, val: 0, new: dice.chance(50) }]);
+    let line = log_text(plant.props, &[Event { new: dice.chance(50), ..UNSEEN }]);
     let most = 65520 / line.len();
-    match dice.below(16) {
+    let long = |lines: usize| log_text(plant.props, &(0..lines).map(|k| Event { num: Some(7 + k as u32), ..UNSEEN }).collect::<Vec<Event>>());
+    match dice.below(17) {
         0 => *bytes(&mut files.rule) = pad(512),
         1 => *bytes(&mut files.rule) = [pad(512), vec![b'\n']].concat(),
         2 => *bytes(&mut files.rule) = pad(513),
@@ -484,7 +535,7 @@ fn sizes(dice: &mut Dice) -> Files {
             // The last event of the longest log is refused.
             let text = bytes(&mut files.log);
             *text = line.repeat(most - 1);
-            text.extend(log_text(plant.props, &[Event { see: 0, val: 1, new: false }]));
+            text.extend(log_text(plant.props, &[Event { val: 1, ..UNSEEN }]));
         }
         12 | 13 => {
             let mut largest = self::plant(dice, 64);
@@ -500,6 +551,13 @@ fn sizes(dice: &mut Dice) -> Files {
             }
         }
         14 => *bytes(&mut files.plant) = vec![b'p'; dice.from(2476, 2479)],
+        15 => {
+            // As many numbered lines as there is room for, or what of one more goes into the file, or all of it.
+            let text = bytes(&mut files.log);
+            *text = long(2000);
+            let bytes = long(1).len();
+            text.truncate(*dice.pick(&[65520 / bytes * bytes, 65520, (65520 / bytes + 1) * bytes]));
+        }
         _ => {
             let n = *dice.pick(&[0, 1, 5000, 70000]);
             let file = match dice.below(3) { 0 => &mut files.plant, 1 => &mut files.rule, _ => &mut files.log };
@@ -540,6 +598,7 @@ fn that_give(number: usize) -> &'static [fn(&mut Dice) -> Files] {
         5 => &[damaged_rule, sizes],
         6..=8 => &[damaged_rule, rule_at_limits],
         10 | 12 => &[damaged_log, sizes],
+        16 => &[numbers],
         _ => &[odd_files, sizes],
     }
 }
@@ -549,7 +608,7 @@ fn together() -> Vec<[usize; 3]> {
     let mut all = Vec::new();
     for plant in [0, 2, 3, 14] {
         for rule in [0, 4, 5, 6, 7, 8, 14] {
-            all.extend([0, 10, 12, 14].map(|log| [plant, rule, log]));
+            all.extend([0, 10, 12, 14, 16].map(|log| [plant, rule, log]));
         }
     }
     let refused = |numbers: &[usize; 3]| numbers.iter().filter(|n| **n > 0).count();
@@ -631,7 +690,7 @@ pub const GIVEN: &[(&str, &str, &str, &str)] = &[
 /// The families of cases, and in how many ways (as `refusals` tells them) their texts must be refused at least, or the family tries too little.
 pub const FAMILIES: &[(&str, usize)] = &[
     ("given by the paper", 4), ("plain", 1), ("small", 1), ("chains", 1), ("large", 1), ("far", 1), ("capitals", 4), ("damaged plant", 3), ("damaged rule", 3),
-    ("rule at limits", 4), ("damaged log", 3), ("sizes", 8), ("odd files", 15), ("several damaged", 99),
+    ("rule at limits", 4), ("damaged log", 3), ("numbers", 4), ("sizes", 8), ("odd files", 15), ("several damaged", 126),
 ];
 
 /// Case `number` of a seed; the first ones are the paper's own.
@@ -642,7 +701,8 @@ pub fn case(seed: u64, number: usize) -> Case {
     }
     let mut dice = Dice::new(seed, number as u64);
     let (kind, files) = match number % 40 {
-        0..=4 => ("plain", plain(&mut dice)),
+        0..=2 => ("plain", plain(&mut dice)),
+        3 | 4 => ("numbers", numbers(&mut dice)),
         5 | 6 => ("capitals", capitals(&mut dice)),
         7..=10 => ("small", small(&mut dice)),
         11..=15 => ("chains", chains(&mut dice)),

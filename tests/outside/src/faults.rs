@@ -103,6 +103,27 @@ ALL {
     FolderIsEmpty: "a folder in the place of a file is an empty file",
     MissingIsEmpty: "a missing log is an empty log",
     NumbersRestart: "n counts from the last restart",
+    LinesCounted: "n counts lines, whatever their numbers",
+    NumbersHex: "n is written in hexadecimal",
+    NumbersRefused: "lines with numbers are refused",
+    MixTaken: "numbered and plain lines may stand in one log",
+    MixPlaceFirst: "a log that mixes is refused at its first line",
+    MixPlaceBehind: "a log that mixes is refused at the second byte of the line that differs",
+    GapOf17: "17 missing numbers are taken",
+    GapOf16Refused: "16 missing numbers are refused",
+    RepeatTaken: "a number that comes again is taken",
+    BackTaken: "a number that goes back is taken",
+    FirstFromZero: "numbers are missing before the first event too",
+    NumbersAnew: "after a restart any number may come",
+    NumbersWrap: "behind the last number of 32 bits comes 0",
+    LastRefused: "the last number of 32 bits is refused",
+    NumberBeforeEvent: "16 goes before 10",
+    NumberPlaceZero: "a refused number has place 0",
+    UnseenLeftOut: "missing events are passed over",
+    UnseenBehind: "missing events are put in behind the event that shows it",
+    UnseenOneMore: "one event too many is put in",
+    UnseenRestart: "missing events are restarts",
+    UnseenShown: "missing events get lines of their own",
     WordUnknown: "inconclusive is written unknown",
 }
 OF_RUNS {
@@ -127,7 +148,8 @@ OF_RUNS {
 
 /// Mistakes that only lamps show, and no line of a run.
 pub const OF_LAMPS: &[Fault] = &[
-    Fault::TrueOnNothing, Fault::LeftCountsPairs, Fault::LeftCountsTwice, Fault::LeftOfKeeping, Fault::LogLate, Fault::NumbersRestart, Fault::WordUnknown,
+    Fault::TrueOnNothing, Fault::LeftCountsPairs, Fault::LeftCountsTwice, Fault::LeftOfKeeping, Fault::LogLate, Fault::NumbersRestart, Fault::LinesCounted,
+    Fault::NumbersHex, Fault::UnseenShown, Fault::WordUnknown,
 ];
 
 thread_local! { static PLANTED: Cell<Option<Fault>> = Cell::new(None); }

@@ -193,7 +193,7 @@ mod tests {
 
     #[test]
     fn runs_by_hand() {
-        let see = |v| Event { see: 3, val: v, new: false };
+        let see = |v| Event { num: None, see: 3, val: v, new: false };
         let events = [see(0), see(1), see(2)];
         let good = lasso(&[0, 1], &[2, 0, 1]);
         assert_eq!(run_fault(&plant_w(), &rule("Fp1"), &events, &good, true), None);

@@ -4,7 +4,7 @@
 use std::collections::HashSet;
 
 use crate::faults::{self, Fault};
-use crate::log::{mark, Event};
+use crate::log::{filled, mark, Event};
 use crate::meaning::{run_fault, values, Lasso};
 use crate::pairs::{Graph, Monitor};
 use crate::plant::Plant;
@@ -36,7 +36,7 @@ pub fn past(files: &Files) -> Result<Past, String> {
     let read = || -> Result<Past, crate::Refusal> {
         let plant = files.read_plant()?;
         let rule = files.read_rule(plant.props)?;
-        let events = files.read_log(plant.props)?;
+        let events = filled(&files.read_log(plant.props)?).expect("numbers that are taken");
         Ok(Past { plant, rule, events, kinds })
     };
     Ok(read().expect("what the lamps were shown for"))

@@ -1,7 +1,7 @@
 //! The program's whole output, from what stands in the three places.
 
 use crate::faults::{self, Fault};
-use crate::log::{self, Event};
+use crate::log::{self, Event, Numbers};
 use crate::pairs::{Graph, Monitor, Verdict};
 use crate::plant::{self, Plant};
 use crate::rule::{self, Rule};
@@ -85,7 +85,11 @@ impl Files {
         let number = |refusal: Refusal| refusal.number;
         let plant = self.read_plant();
         let props = plant.as_ref().map_or(1, |p| p.props);
-        let events = |log: Vec<Event>| if log.iter().all(|e| e.is_legal(props)) { 0 } else { 10 };
+        let events = |log: Vec<Event>| {
+            let mut numbers = Numbers::new();
+            let refused = |e: &Event| if !e.is_legal(props) { Some(10) } else if numbers.take(e).is_none() { Some(16) } else { None };
+            log.iter().find_map(refused).unwrap_or(0)
+        };
         [plant.map_or_else(number, |_| 0), self.read_rule(props).map_or_else(number, |_| 0), self.read_log(props).map_or_else(number, events)]
     }
 }
@@ -125,7 +129,7 @@ fn lines(files: &Files, out: &mut String) -> Result<(), Refusal> {
     }
     let text = log_bytes(&files.log)?;
     let early = faults::is(Fault::LogLate) || faults::is(Fault::EventBeforeForm);
-    let bytes = log::bytes(plant.props);
+    let bytes = log::bytes(&text, plant.props);
     let whole = &text[..text.len() / bytes * bytes];
     let events = if early { log::read(whole, plant.props).or_else(|_| log::read(&text, plant.props)) } else { log::read(&text, plant.props) }?;
     let graph = Graph::new(&plant, &rule);
@@ -134,18 +138,40 @@ fn lines(files: &Files, out: &mut String) -> Result<(), Refusal> {
     if faults::is(Fault::LogLate) {
         log::read(&text, plant.props)?;
     }
-    let mut shown = 0;
-    for (n, event) in events.iter().enumerate() {
-        if !event.is_legal(plant.props) {
-            let place = if faults::is(Fault::EventPlaceZero) { 0 } else if faults::is(Fault::EventPlaceLine) { n } else { bytes * n };
-            return Err(Refusal { number: 10, place });
+    let mut numbers = Numbers::new();
+    let mut restart = 0;
+    for (line, event) in events.iter().enumerate() {
+        let taken = take(&mut numbers, event, &plant, bytes, line)?;
+        restart = if event.new { taken.number } else { restart };
+        for one in log::around(taken.missing, *event) {
+            monitor = monitor.step(&graph, one);
+            if faults::is(Fault::UnseenShown) && one != *event {
+                *out += &format!("n={} {}", taken.number, lamp(&monitor, &graph));
+            }
         }
-        monitor = monitor.step(&graph, *event);
-        shown = if faults::is(Fault::NumbersRestart) && event.new { 0 } else { shown };
-        *out += &format!("n={} {}", shown, lamp(&monitor, &graph));
-        shown += 1;
+        let n = if faults::is(Fault::LinesCounted) { line as u64 } else if faults::is(Fault::NumbersRestart) { taken.number - restart } else { taken.number };
+        let n = if faults::is(Fault::NumbersHex) { format!("{:x}", n) } else { n.to_string() };
+        *out += &format!("n={} {}", n, lamp(&monitor, &graph));
     }
     log::read(&text, plant.props).map(|_| ())
+}
+
+/// The number of an event that is taken, and how many are missing before it.
+struct Taken {
+    number: u64,
+    missing: u64,
+}
+
+/// Check 10, and then 16; both are refused at the line.
+fn take(numbers: &mut Numbers, event: &Event, plant: &Plant, bytes: usize, line: usize) -> Result<Taken, Refusal> {
+    let place = if faults::is(Fault::EventPlaceZero) { 0 } else if faults::is(Fault::EventPlaceLine) { line } else { bytes * line };
+    let legal = event.is_legal(plant.props);
+    let taken = if legal || faults::is(Fault::NumberBeforeEvent) { Some(numbers.take(event)) } else { None };
+    match taken {
+        Some(None) => Err(Refusal { number: 16, place: if faults::is(Fault::NumberPlaceZero) { 0 } else { place } }),
+        Some(Some((number, missing))) if legal => Ok(Taken { number, missing }),
+        _ => Err(Refusal { number: 10, place }),
+    }
 }
 
 pub fn output(files: &Files) -> String {
