@@ -50,6 +50,7 @@ digit : (k : ℕ) → k < 10 → isLetter (48 + k) ≡ false
 digit k lt =
     rw (ne-eqb (48 + k) 70 (λ e. omega arith), ne-eqb (48 + k) 71 (λ e. omega arith), ne-eqb (48 + k) 82 (λ e. omega arith), ne-eqb (48 + k) 85 (λ e. omega arith), ne-eqb (48 + k) 88 (λ e. omega arith))
 
+-- so a name has none
 name : (k : ℕ) → k < names → letters (112 ∷ spell k) ≡ []
 unfolding letters spell
 name k lt = one (ltb k 10) refl
@@ -58,7 +59,7 @@ name k lt = one (ltb k 10) refl
     one true e = rw (digit k (ltb-true k 10 e))
     one false e = rw (digit (k / 10) (omega arith), digit (k % 10) (omega arith))
 
--- what an operator between two operands adds, or nothing, stands between their letters
+-- between two operands stand the letters of their operator, if it has one
 between : (s o t : List ℕ) → letters (inside s o t) ≡ letters s ++ (letters o ++ letters t)
 unfolding letters
 between s o t = letters-append s (o ++ (t ++ 41 ∷ [])) ∙ ap (λ (u : List ℕ). letters s ++ u) (letters-append o (t ++ 41 ∷ []) ∙ ap (λ (u : List ℕ). letters o ++ u) (letters-append t (41 ∷ []) ∙ append-nil (letters t)))
