@@ -194,10 +194,11 @@ module _ (p : Plant) (fair label next : List ℕ) (rule : Rule) (given : Input p
 
   -- ---- with refused events among them
 
-  -- the accepted ones are all taken
+  -- the accepted ones
   abbrev ones : List Event → List Event
   ones es = takenOnes p fair label next rule false 0 es
 
+  -- each of them is accepted behind those before it
   ones-taken : (seen : Bool) (expected : ℕ) (es : List Event) → TakenFrom p fair label next rule seen expected (takenOnes p fair label next rule seen expected es)
   unfolding takenOnes
   ones-taken seen expected [] = tt
