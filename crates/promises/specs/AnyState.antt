@@ -228,7 +228,7 @@ module _ (p : Plant) (fair label next : List ℕ) (rule : Rule) (full : length (
         lamp = shown-by T f (given .table) (given .few) _ sets;
       })
 
-  -- A RESTART FLAG ON THE FIRST EVENT changes nothing, neither the answer nor the monitor, accepted or refused
+  -- THE FLAG OF THE FIRST EVENT makes no difference, neither to the answer nor to the monitor, accepted or refused
   pub first-flag : (live : Pairs) (m : Monitor) (e : Event) → m .seen ≡ false
       → stepCall p fair label next rule live m e ≡ stepCall p fair label next rule live m (record { num = e .num; see = e .see; val = e .val; new = false })
   unfolding stepCall
