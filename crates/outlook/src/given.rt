@@ -9,7 +9,7 @@ use rule::RuleRead;
 use syntax::Rule;
 use transcript::texts;
 ghost use Rattle.io.specs.Counts.{Counts};
-ghost use Rattle.transcript.specs.Lent.{Lent};
+ghost use Rattle.opened.specs.Lent.{Lent};
 
 // The table, the rule, and how many bytes of the lent buffer are the log. With a refusal, what was not read is empty.
 pub struct Given {

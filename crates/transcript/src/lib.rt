@@ -13,7 +13,7 @@ use syntax::Rule;
 ghost use Prim.Native.Nat.{_≤_};
 ghost use lib.ListN.{length};
 ghost use Rattle.report.specs.Line.{Put};
-ghost use Rattle.transcript.specs.Lent.{Lent};
+ghost use Rattle.opened.specs.Lent.{Lent};
 ghost use Rattle.transcript.specs.Said.{fileOf, logText, ruleText, tableText, outputOf};
 
 // The bytes of the longest output: a line of at most 70 for the start, for each of 3,276 events, and for a refusal.

@@ -9,7 +9,7 @@ use rule::RuleRead;
 ghost use mathlib.Core.Path.{_≡_};
 ghost use Rattle.io.specs.Counts.{Counts};
 ghost use Rattle.transcript.specs.End.{endOf};
-ghost use Rattle.transcript.specs.Lent.{Lent};
+ghost use Rattle.opened.specs.Lent.{Lent};
 ghost use Rattle.transcript.specs.Said.{fileOf, plantRead, ruleGiven, logOutcome};
 
 pub fn read_plant(ok: bool, text: &[u8]) -> TableRead

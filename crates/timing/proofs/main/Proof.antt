@@ -1,7 +1,7 @@
 -- `timing::main` is safe and ends: the parts of a table that was read are lent as its counts say (`lent`).
 -- Assumes nothing.
 use borrow.Author.Needs.{needs}
-use Rattle.transcript.proofs.Lent.{lent}
+use Rattle.opened.specs.Lent.{lent}
 use Rattle.timing.proofs.main.Statement.{statement}
 use Rattle.timing.proofs.main.Tie as tie
 

@@ -1,17 +1,22 @@
--- The parts of a table that was read can be lent: its counts are within its arrays.
+-- When the parts of a table can be lent as its counts say, and that those of a table that was read can.
 use mathlib.Core.Path.{_≡_, sym, subst}
 use mathlib.Core.List.{List}
 use Prim.Native.Nat.{ℕ, _≤_, zero-le}
 use native.Mathlib.Omega.{arith}
 use lib.ListN.{length, getD}
+use Rattle.io.specs.Counts.{Counts}
 use Rattle.io.proofs.Counting.{counts}
 use Rattle.meaning.specs.Run as run
 use Rattle.words.specs.Lists.{length-list}
 use Rattle.plant.specs.declared.Table.{Table}
 use Rattle.plant.specs.declared.TableRead.{TableRead}
 use Rattle.plant.specs.Read.{tableRead, tableOf, noTable}
-use Rattle.transcript.specs.Lent.{Lent}
 use Rattle.plant.specs.Promises.{Reading, reading, accepted, beyond, misformed}
+
+pub record Lent (t : Table) : Type 0 where
+  pub fair : Counts (t .plant .just) (t .fair)
+  pub label : Counts (t .plant .states) (t .label)
+  pub next : Counts (t .plant .states) (t .next)
 
 filled : (t : run.Plant) → length (t .fair) ≤ 4 → t .states ≤ 64 → Lent (tableOf t)
 filled t few-fair few-states = record {
@@ -21,8 +26,8 @@ filled t few-fair few-states = record {
 }
 
 -- the table beside a refusal
-pub none-lent : Lent noTable
-none-lent = record { fair = counts 0 (noTable .fair) zero-le; label = counts 0 (noTable .label) zero-le; next = counts 0 (noTable .next) zero-le }
+pub none : Lent noTable
+none = record { fair = counts 0 (noTable .fair) zero-le; label = counts 0 (noTable .label) zero-le; next = counts 0 (noTable .next) zero-le }
 
 pub lent : (r : TableRead) (s : List ℕ) → r ≡ tableRead s → Lent (r .table)
 lent r s e = subst (λ (x : TableRead). Lent (x .table)) (sym e) (by-case (reading s))
@@ -32,5 +37,5 @@ lent r s e = subst (λ (x : TableRead). Lent (x .table)) (sym e) (by-case (readi
 
     by-case : Reading s → Lent (tableRead s .table)
     by-case (accepted t a f is) = there _ is (filled t (a .few-fair) (a .few-states))
-    by-case (beyond t w b f is) = there _ is none-lent
-    by-case (misformed i p is) = there _ is none-lent
+    by-case (beyond t w b f is) = there _ is none
+    by-case (misformed i p is) = there _ is none
