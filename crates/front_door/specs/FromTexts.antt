@@ -58,7 +58,7 @@ use Rattle.front_door.specs.RuleEnd.{stripped, end-said, end-dropped, en
 -- ---- the readers
 
 -- a log that says events is accepted
-log-taken : {log : File} {q : ℕ} {es : List Event} (says : SaysLog log q es) → Taken (widthOf q) (says .text) es
+pub log-taken : {log : File} {q : ℕ} {es : List Event} (says : SaysLog log q es) → Taken (widthOf q) (says .text) es
 log-taken {log} {q} {es} says = let read = small-read (widthOf q) es (says .text) (says .writable) (says .said) in
     record {
       accepts = ap (λ (r : LogRead). r .outcome) (read .0);
@@ -83,7 +83,7 @@ module _ (t : run.Plant) (table : AcceptedTable t) where
   ruled rule log = said.ruleText (countsIn t) (t .fair) (t .label) (t .next) rule log
 
   -- it passes the check
-  abbrev passes-check : tableOutcome (countsIn t) (t .fair) (t .label) (t .next) ≡ Accepted
+  abbrev pub passes-check : tableOutcome (countsIn t) (t .fair) (t .label) (t .next) ≡ Accepted
   passes-check = accepted-exactly (countsIn t) (t .fair) (t .label) (t .next) .1 (refl, table)
 
   -- the table that is said is lent, part by part
@@ -105,8 +105,19 @@ module _ (t : run.Plant) (table : AcceptedTable t) where
 
   module _ {rule : File} {f : Formula} (says : SaysRule rule (t .props) f) where
     -- the rule that was written is read
+    pub text-read : ruleRead (countsIn t) (t .fair) (t .label) (t .next) (says .text) ≡ accepted (ruleOf f)
+    text-read = rules.accepted-exactly (countsIn t) (t .fair) (t .label) (t .next) (says .text) (ruleOf f) .1 (record {
+      formula = f;
+      reads = record { beside = beside; short = says .short; says = says .said };
+      below = says .below;
+      small = says .small;
+      few = says .few;
+      is = refl;
+    })
+
+    -- and so it is with an LF behind it
     rule-read : said.ruleGiven (countsIn t) (t .fair) (t .label) (t .next) rule ≡ accepted (ruleOf f)
-    rule-read = ⊎-elim (λ e. ap given-to e ∙ ap reads-as (end-said (says .said)) ∙ reads) (λ e. ap given-to e ∙ ap reads-as (end-dropped (says .text)) ∙ reads) (says .is)
+    rule-read = ⊎-elim (λ e. ap given-to e ∙ ap reads-as (end-said (says .said)) ∙ text-read) (λ e. ap given-to e ∙ ap reads-as (end-dropped (says .text)) ∙ text-read) (says .is)
       where
         given-to : File → RuleRead
         given-to x = said.ruleGiven (countsIn t) (t .fair) (t .label) (t .next) x
@@ -114,21 +125,11 @@ module _ (t : run.Plant) (table : AcceptedTable t) where
         reads-as : List ℕ → RuleRead
         reads-as s = ruleRead (countsIn t) (t .fair) (t .label) (t .next) s
 
-        reads : reads-as (says .text) ≡ accepted (ruleOf f)
-        reads = rules.accepted-exactly (countsIn t) (t .fair) (t .label) (t .next) (says .text) (ruleOf f) .1 (record {
-          formula = f;
-          reads = record { beside = beside; short = says .short; says = says .said };
-          below = says .below;
-          small = says .small;
-          few = says .few;
-          is = refl;
-        })
-
-    abbrev value : RuleValue (ruleOf f) (t .props)
+    abbrev pub value : RuleValue (ruleOf f) (t .props)
     value = record { formula = f; is = refl; small = says .small; few = says .few; below = says .below }
 
     -- and with the table it passes the checks
-    passes : Input (countsIn t) (t .fair) (t .label) (t .next) (ruleOf f)
+    pub passes : Input (countsIn t) (t .fair) (t .label) (t .next) (ruleOf f)
     passes = given (countsIn t) (t .fair) (t .label) (t .next) (ruleOf f) passes-check value
 
     -- behind the rule's check
@@ -149,7 +150,7 @@ front-door plant rule log t f es table-says table rule-says log-says = let text 
     rw (log-says .is, table-read t table table-says rule text, behind-rule t table rule-says text) (behind-log t table rule-says (log-says .text) (log-taken log-says))
 
 -- what a rule's text is answered: a refusal, or a rule
-data Answer : RuleRead → Type 0 where
+pub data Answer : RuleRead → Type 0 where
   refuses : (kind : Kind) (i : ℕ) → Answer (noRule kind i)
   gives : (r : Rule) → Answer (accepted r)
 
@@ -169,7 +170,7 @@ by-name : (n : Found) (x : RuleRead) → Answer x → Answer (ofFound x n)
 by-name (At i) x a = refuses Proposition i
 by-name Nowhere x a = a
 
-answer : (p : Plant) (fair label next s : List ℕ) → Answer (ruleRead p fair label next s)
+pub answer : (p : Plant) (fair label next s : List ℕ) → Answer (ruleRead p fair label next s)
 answer p fair label next s = by-table (tableOutcome p fair label next) _ (either (ltb longestRule (length s)) _ _ (refuses RuleLength longestRule) (by-scan (scan s) _ (by-name (unknownAt (p .props) 0 s) _
     (either (ltb mostNodes (r .len)) _ _ (refuses Nodes 0) (either (ltb mostParts (count (held r))) _ _ (refuses Parts 0) (gives r))))))
   where

@@ -61,49 +61,49 @@ pub record Taken (w : ℕ) (log : List ℕ) (es : List Event) : Type 0 where
   pub wide : bytesIn w log ≡ lineBytes (firstOf gives es) w
 
 module _ (p : Plant) (fair label next : List ℕ) (rule : Rule) (input : Input p fair label next rule) where
-  abbrev T : run.Plant
+  abbrev pub T : run.Plant
   T = watching.T p fair label next rule
 
-  abbrev f : Formula
+  abbrev pub f : Formula
   f = watching.f p fair label next rule
 
   -- the first n events are accepted
-  abbrev TakenTo : List Event → ℕ → Type 0
+  abbrev pub TakenTo : List Event → ℕ → Type 0
   TakenTo es n = (k : ℕ) → k < n → TakenAt T es k
 
   -- each lamp is right for the events up to its own
-  abbrev Lamps : List Event → List Lamp → Type 0
+  abbrev pub Lamps : List Event → List Lamp → Type 0
   Lamps es lamps = (n : ℕ) → n < length lamps → RightAfter T f (take (suc n) es) (getD lamps n dark)
 
   -- and has its event's number
-  abbrev Numbers : List Event → List ℕ → Type 0
+  abbrev pub Numbers : List Event → List ℕ → Type 0
   Numbers es named = (n : ℕ) → n < length named → getD named n 0 ≡ numberAt es n
 
   -- the calls with the live set that `prepare` gives
-  abbrev known : Pairs
+  abbrev pub known : Pairs
   known = watching.live p fair label next rule
 
   fits : PairSet T f (known .words)
   fits = live-fits p fair label next rule input
 
-  abbrev calls : Monitor → Event → Watched
+  abbrev pub calls : Monitor → Event → Watched
   calls = stepCall p fair label next rule known
 
-  abbrev opened : Watched
+  abbrev pub opened : Watched
   opened = openCall p fair label next rule known
 
   -- the model after some events
   abbrev seen : List Event → model.Monitor
   seen es = model.runOf T f (liveSet T f) (filled es)
 
-  abbrev watched : List Event → Watched
+  abbrev pub watched : List Event → Watched
   watched = after p fair label next rule
 
   -- the course where no event was refused, and where one was
-  abbrev standing : List Event → ℕ → List Lamp → List ℕ → Course
+  abbrev pub standing : List Event → ℕ → List Lamp → List ℕ → Course
   standing es n lamps named = record { went = record { outcome = Accepted; done = n; monitor = watched (take n es) .monitor }; lamps = lamps; numbers = named }
 
-  abbrev halted : Refusal → ℕ → Monitor → List Lamp → List ℕ → Course
+  abbrev pub halted : Refusal → ℕ → Monitor → List Lamp → List ℕ → Course
   halted r k m lamps named = record { went = record { outcome = Refused r; done = k; monitor = m }; lamps = lamps; numbers = named }
 
   one-more : (es : List Event) (n : ℕ) → n < length es → watched (take (suc n) es) ≡ calls (watched (take n es) .monitor) (getD es n nothing)
@@ -129,7 +129,7 @@ module _ (p : Plant) (fair label next : List ℕ) (rule : Rule) (input : Input p
   all-taken-to es n taken h = all-from false 0 es n taken h
 
   -- why event k is refused
-  data Stop (es : List Event) (k : ℕ) : Refusal → Type 0 where
+  pub data Stop (es : List Event) (k : ℕ) : Refusal → Type 0 where
     illegal : (LegalAt T es k → ⊥) → Stop es k (refusedAt IllegalEvent 0)
     stray : LegalAt T es k → (InTurnAt es k → ⊥) → Stop es k (refusedAt NumberKind 0)
 
@@ -166,7 +166,7 @@ module _ (p : Plant) (fair label next : List ℕ) (rule : Rule) (input : Input p
     behind-taken taken = subst (λ (w : Watched). Lit T f (since (filled es)) (w .answer)) (after-model p fair label next rule input es taken) (lamp-right p fair label next rule input es taken)
 
   -- behind n events: all of them were accepted, or the one behind the first k was not
-  data Gone (es : List Event) (n : ℕ) (c : Course) : Type 0 where
+  pub data Gone (es : List Event) (n : ℕ) (c : Course) : Type 0 where
     all-taken : (lamps : List Lamp) → length lamps ≡ n → (named : List ℕ) → length named ≡ n → TakenTo es n → Lamps es lamps → Numbers es named → c ≡ standing es n lamps named → Gone es n c
     stopped : (k : ℕ) → k < n → (lamps : List Lamp) → length lamps ≡ k → (named : List ℕ) → length named ≡ k → TakenTo es k → (r : Refusal) → Stop es k r → Lamps es lamps → Numbers es named → (m : Monitor)
         → c ≡ halted r k m lamps named → Gone es n c
@@ -245,10 +245,10 @@ module _ (p : Plant) (fair label next : List ℕ) (rule : Rule) (input : Input p
             (ap₂ (eventOutcome e (p .props)) came expects ∙ outcome)
 
   module _ (es : List Event) (event : ℕ → Event) (same : (k : ℕ) → event k ≡ getD es k nothing) where
-    abbrev at : ℕ → Course
+    abbrev pub at : ℕ → Course
     at n = courseTo calls (opened .monitor) event n
 
-    gone : (n : ℕ) → n ≤ length es → Gone es n (at n)
+    pub gone : (n : ℕ) → n ≤ length es → Gone es n (at n)
     unfolding courseTo after
     gone zero h = all-taken [] refl [] refl (λ k l. absurd (omega arith)) (λ k l. absurd (omega arith)) (λ k l. absurd (omega arith)) refl
     gone (suc n) h = by (at n) (gone n (omega arith)) (held-at p fair label next rule input known fits (opened .monitor) (open-held p fair label next rule input known fits) event n)

@@ -3,3 +3,5 @@ mod Lamps
 mod RuleEnd
 pub mod FromTexts
 pub mod OneOutput
+pub mod FromLog
+pub mod WholeLog

@@ -79,21 +79,22 @@ lampIn other (Answers.Refused r) = other
 
 module _ (t : Plant) (f : Formula) where
   -- no two verdicts are right
-  verdict-one : {h : History} (v w : Verdict) → Right t f h (numberOf v) → Right t f h (numberOf w) → numberOf v ≡ numberOf w
+  pub verdict-one : {h : History} (v w : Verdict) → Right t f h (numberOf v) → Right t f h (numberOf w) → numberOf v ≡ numberOf w
   verdict-one Inconclusive w r s = sym (s .inconclusive .1 (r .inconclusive .0 refl))
   verdict-one True w r s = sym (s .sure-true .1 (r .sure-true .0 refl))
   verdict-one False w r s = sym (s .sure-false .1 (r .sure-false .0 refl))
   verdict-one OutOfModel w r s = sym (s .out-of-model .1 (r .out-of-model .0 refl))
 
+  -- the verdict of a lamp that is right
+  pub lit-right : {h : History} (l : Lamp) → Lit t f h (Shown l) → Right t f h (numberOf (l .verdict))
+  lit-right {h} l x = subst (Right t f h) (sym (ap numberIn (x .shown))) (x .right)
+
   -- so no two lamps are
   lamp-one : {h : History} (l m : Lamp) → Lit t f h (Shown l) → Lit t f h (Shown m) → l ≡ m
   lamp-one {h} l m a b = ap (lampIn l) (one-answer (Shown l) (Shown m) (ap₂ verdict numbers lefts))
     where
-      right : (l : Lamp) (x : Lit t f h (Shown l)) → Right t f h (numberOf (l .verdict))
-      right l x = subst (Right t f h) (sym (ap numberIn (x .shown))) (x .right)
-
       numbers : numberOf (l .verdict) ≡ numberOf (m .verdict)
-      numbers = verdict-one (l .verdict) (m .verdict) (right l a) (right m b)
+      numbers = verdict-one (l .verdict) (m .verdict) (lit-right l a) (lit-right m b)
 
       lefts : l .left ≡ m .left
       lefts =
@@ -102,7 +103,7 @@ module _ (t : Plant) (f : Formula) where
           ∙ sym (ap leftIn (b .shown) ∙ b .counts .2)
 
   -- there is one first event that is not accepted
-  stop-one : {es : List Event} (k m : ℕ) → ((n : ℕ) → n < k → TakenAt t es n) → ((n : ℕ) → n < m → TakenAt t es n) → (TakenAt t es k → ⊥) → (TakenAt t es m → ⊥) → k ≡ m
+  pub stop-one : {es : List Event} (k m : ℕ) → ((n : ℕ) → n < k → TakenAt t es n) → ((n : ℕ) → n < m → TakenAt t es n) → (TakenAt t es k → ⊥) → (TakenAt t es m → ⊥) → k ≡ m
   stop-one k m a b bad bad' =
       ⊎-elim (λ (l : k < m). absurd (bad (b k l)))
       (λ (l : m ≤ k). ⊎-elim (λ (g : m < k). absurd (bad' (a m g))) (λ (g : k ≤ m). omega arith) (below-or-beyond m k))
