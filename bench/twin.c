@@ -1,6 +1,7 @@
-// The proved code's work in C, by the same algorithms, for the benches. Two modes:
+// The proved code's work in C, by the same algorithms, for the benches. Three modes:
 //     twin         what crate `timing` does, prepare, open and step, on twin.txt in place of the texts: each step makes its tables
 //     twin watch   what the program `watch` does, on the same three texts and with the same output: the tables are made once
+//     twin whole   what `watch_log` does, with the tables made once: bench/whole.c has it in place of the proved call
 // Functions have the names of the proved code, and the larger ones stay calls (NOINLINE), so that no turn of the loop in `turns` can be saved.
 // As in the proved code, a step leaves out the table `settled`, which only prepare has a use for.
 #include <inttypes.h>
@@ -478,16 +479,19 @@ static int read_rule(Text t) {
     read_level(&t, ArrowLevel);
     return token(&t) < 0 && !t.bad && is_valid(&r, p.props);
 }
+static Event read_line(Text *t) {
+    Event e;
+    expect(t, "see=");
+    e.see = hex(t, digits());
+    expect(t, " val=");
+    e.val = hex(t, digits());
+    expect(t, " new=");
+    e.new = count(t, 0, 1);
+    expect(t, "\n");
+    return e;
+}
 static int read_log(Text t) {
-    for (lines = 0; t.at < t.end && !t.bad; lines++) {
-        expect(&t, "see=");
-        events[lines].see = hex(&t, digits());
-        expect(&t, " val=");
-        events[lines].val = hex(&t, digits());
-        expect(&t, " new=");
-        events[lines].new = count(&t, 0, 1);
-        expect(&t, "\n");
-    }
+    for (lines = 0; t.at < t.end && !t.bad; lines++) events[lines] = read_line(&t);
     return !t.bad;
 }
 // A whole file of at most `most` bytes.
@@ -545,6 +549,34 @@ static size_t follow(Monitor *m) {
         put_lamp(lamp(m));
     }
     return lines;
+}
+// A verdict byte for each line of a text, which is checked whole before the first: how many were taken.
+size_t twin_watch_log(const char *log, size_t len, uint8_t *verdicts) {
+    static Ways ways;
+    static u64 words[2112];
+    Shape s;
+    Monitor m;
+    size_t bytes = digits() > 2 ? 24 : 20, n = 0;
+    if (prepare(p, fair, label, next, &r, live) || begin(p, fair, label, next, &r, live, &m).refused) return 0;
+    Text t = {log, log + len, 0};
+    while (t.at < t.end && !t.bad) read_line(&t);
+    if (t.bad) return 0;
+    shape(&r, &s);
+    truths(&r, label, p.states, &s, words);
+    ways_of(&r, &s, words, &ways);
+    for (t.at = log; n < len / bytes; n++) {
+        Event e = read_line(&t);
+        if (!is_legal(e, p.props)) return n;
+        u64 agree = agreeing(label, p.states, e);
+        if (!m.seen) kept(live, agree, &m);
+        else if (e.new) restarted(next, p.states, &ways, words + r.len * 64, live, agree, &m);
+        else moved(next, p.states, &ways, live, agree, &m);
+        verdicts[n] = lamp(&m).verdict;
+    }
+    return n;
+}
+int twin_read(const char *table, size_t table_len, const char *rule, size_t rule_len) {
+    return read_table((Text){table, table + table_len, 0}) && read_rule((Text){rule, rule + rule_len, 0});
 }
 // Of what is refused, only that it is: the benches hand in nothing that is.
 static int watch(void) {
