@@ -61,8 +61,8 @@ def main():
         for mode in MODES:
             total[mode] += took[mode]
     show('all', total)
-    print('\nan event of logs of growing length, of blind-1, in %s' % unit)
-    folder = cases.folder(ROOM, drawn['blind-1'] + ['lines=%d' % LENGTHS[-1]])
+    print('\nan event of logs of growing length, of seeing-3, in %s' % unit)
+    folder = cases.folder(ROOM, drawn['seeing-3'] + ['lines=%d' % LENGTHS[-1]])
     for lines in LENGTHS:
         took = events(folder, ('call', 'twin'), SHORT, lines)
         print('%8d lines  call %10.1f  twin %10.1f' % (lines, took['call'], took['twin']), flush=True)
