@@ -1,7 +1,7 @@
-// The proved code's work in C, by the same algorithms, for the benches. Three modes:
+// The proved code's work in C, by the same algorithms, for the benches. Two modes:
 //     twin         what crate `timing` does, prepare, open and step, on twin.txt in place of the texts: each step makes its tables
 //     twin watch   what the program `watch` does, on the same three texts and with the same output: the tables are made once
-//     twin whole   what `watch_log` does, with the tables made once: bench/whole.c has it in place of the proved call
+// `twin_watch_log` is what `watch_log` does, the tables made once: bench/whole.c has it beside the proved call.
 // Functions have the names of the proved code, and the larger ones stay calls (NOINLINE), so that no turn of the loop in `turns` can be saved.
 // As in the proved code, a step leaves out the table `settled`, which only prepare has a use for.
 #include <inttypes.h>
