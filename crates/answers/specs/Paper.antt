@@ -20,7 +20,16 @@ use Rattle.answers.specs.declared.Kind.the-variants.{
   LogText,
   NoPair,
   File,
+  Rows,
   Number,
+  NoKey,
+  SheetText,
+  NotNewer,
+  NotHeld,
+  ClosingEdition,
+  RunLength,
+  Stretches,
+  LogLength,
 }
 use Rattle.answers.specs.declared.Refusal.{Refusal}
 use Rattle.answers.specs.declared.Answer.{Answer}
@@ -43,7 +52,7 @@ numberOf True = 1
 numberOf False = 2
 numberOf OutOfModel = 3
 
--- 01's table of refusals, and 02's 16
+-- 01's table of refusals, and those of 02's requests
 abbrev pub kindNumber : Kind → ℕ
 kindNumber Counts = 1
 kindNumber Bits = 2
@@ -59,7 +68,16 @@ kindNumber Room = 11
 kindNumber LogText = 12
 kindNumber NoPair = 13
 kindNumber File = 14
+kindNumber Rows = 15
 kindNumber Number = 16
+kindNumber NoKey = 17
+kindNumber SheetText = 18
+kindNumber NotNewer = 19
+kindNumber NotHeld = 20
+kindNumber ClosingEdition = 21
+kindNumber RunLength = 22
+kindNumber Stretches = 23
+kindNumber LogLength = 24
 
 -- a refusal, and each answer, on paper
 abbrev pub refusal : Refusal → Paper

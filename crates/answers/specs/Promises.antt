@@ -24,7 +24,16 @@ use Rattle.answers.specs.declared.Kind.the-variants.{
   LogText,
   NoPair,
   File,
+  Rows,
   Number,
+  NoKey,
+  SheetText,
+  NotNewer,
+  NotHeld,
+  ClosingEdition,
+  RunLength,
+  Stretches,
+  LogLength,
 }
 use Rattle.answers.specs.declared.Answer.{Answer}
 use Rattle.answers.specs.declared.Answer.the-variants.{Shown}
@@ -49,7 +58,7 @@ verdicts = Inconclusive ∷ True ∷ False ∷ OutOfModel ∷ []
 
 abbrev kinds : List Kind
 kinds =
-    File ∷ Counts ∷ Bits ∷ TableText ∷ RuleLength ∷ RuleText ∷ Proposition ∷ Nodes ∷ Parts ∷ Value ∷ IllegalEvent ∷ Room ∷ LogText ∷ NoPair ∷ File ∷ File ∷ Number ∷ []
+    File ∷ Counts ∷ Bits ∷ TableText ∷ RuleLength ∷ RuleText ∷ Proposition ∷ Nodes ∷ Parts ∷ Value ∷ IllegalEvent ∷ Room ∷ LogText ∷ NoPair ∷ File ∷ Rows ∷ Number ∷ NoKey ∷ SheetText ∷ NotNewer ∷ NotHeld ∷ ClosingEdition ∷ RunLength ∷ Stretches ∷ LogLength ∷ []
 
 verdict-back : (v : Verdict) → getD verdicts (numberOf v) Inconclusive ≡ v
 verdict-back Inconclusive = refl
@@ -72,7 +81,16 @@ kind-back Room = refl
 kind-back LogText = refl
 kind-back NoPair = refl
 kind-back File = refl
+kind-back Rows = refl
 kind-back Number = refl
+kind-back NoKey = refl
+kind-back SheetText = refl
+kind-back NotNewer = refl
+kind-back NotHeld = refl
+kind-back ClosingEdition = refl
+kind-back RunLength = refl
+kind-back Stretches = refl
+kind-back LogLength = refl
 
 pub one-verdict : (v w : Verdict) → numberOf v ≡ numberOf w → v ≡ w
 one-verdict v w same = cc (verdict-back v, verdict-back w, ap (λ n. getD verdicts n Inconclusive) same)

@@ -72,7 +72,16 @@ pub enum Kind {
     LogText,
     NoPair,
     File,
+    Rows,
     Number,
+    NoKey,
+    SheetText,
+    NotNewer,
+    NotHeld,
+    ClosingEdition,
+    RunLength,
+    Stretches,
+    LogLength,
 }
 
 impl Kind {
@@ -104,7 +113,25 @@ impl Kind {
 
     pub const FILE: u8 = 14;
 
+    pub const ROWS: u8 = 15;
+
     pub const NUMBER: u8 = 16;
+
+    pub const NO_KEY: u8 = 17;
+
+    pub const SHEET_TEXT: u8 = 18;
+
+    pub const NOT_NEWER: u8 = 19;
+
+    pub const NOT_HELD: u8 = 20;
+
+    pub const CLOSING_EDITION: u8 = 21;
+
+    pub const RUN_LENGTH: u8 = 22;
+
+    pub const STRETCHES: u8 = 23;
+
+    pub const LOG_LENGTH: u8 = 24;
 
     pub fn number(self) -> u8
         ensures { λ r. ⌜ r ≡ kindNumber self ⌝ }
@@ -124,7 +151,16 @@ impl Kind {
             Kind::LogText => Kind::LOG_TEXT,
             Kind::NoPair => Kind::NO_PAIR,
             Kind::File => Kind::FILE,
+            Kind::Rows => Kind::ROWS,
             Kind::Number => Kind::NUMBER,
+            Kind::NoKey => Kind::NO_KEY,
+            Kind::SheetText => Kind::SHEET_TEXT,
+            Kind::NotNewer => Kind::NOT_NEWER,
+            Kind::NotHeld => Kind::NOT_HELD,
+            Kind::ClosingEdition => Kind::CLOSING_EDITION,
+            Kind::RunLength => Kind::RUN_LENGTH,
+            Kind::Stretches => Kind::STRETCHES,
+            Kind::LogLength => Kind::LOG_LENGTH,
         }
     }
 }

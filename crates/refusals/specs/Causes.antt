@@ -18,6 +18,7 @@ use Rattle.answers.specs.declared.Kind.the-variants.{Counts, Bits, Value, Illeg
 use Rattle.answers.specs.Paper.{Paper, refused}
 use Rattle.plant.specs.declared.Plant.{Plant}
 use Rattle.plant.specs.Table.{plantOf, Lengths, BitBeyond}
+use Rattle.plant.specs.Written.{tableText}
 use Rattle.syntax.specs.declared.Rule.{Rule}
 use Rattle.syntax.specs.Grammar.{names}
 use Rattle.syntax.specs.Print.{print}
@@ -54,6 +55,10 @@ NoCause (row j cause rest) = (cause → ⊥) × NoCause rest
 abbrev pub Taken : Paper → Type 0
 Taken a = (n q : ℕ) → a ≡ refused n q → ⊥
 
+-- 1 and 2, of the table that is handed in
+abbrev pub ofTable : Plant → List ℕ → List ℕ → List ℕ → Rows → Rows
+ofTable p fair label next rest = row Counts (Lengths p (length fair) (length label) (length next) → ⊥) (row Bits (BitBeyond p fair label next) rest)
+
 -- ---- the calls that take a table and a rule
 
 -- what each is handed beside these; `step` is the step by value and the step in place; `witness` has the kind of run that is asked for (true: it keeps the rule) and the lent buffer
@@ -70,10 +75,6 @@ module _ (p : Plant) (fair label next : List ℕ) (rule : Rule) where
 
   abbrev pub formula : Formula
   formula = formulaOf rule
-
-  -- 1 and 2, of the table
-  abbrev pub ofTable : Rows → Rows
-  ofTable rest = row Counts (Lengths p (length fair) (length label) (length next) → ⊥) (row Bits (BitBeyond p fair label next) rest)
 
   -- 9, of the rule value: it is that of no rule within the limits that has the table's propositions alone
   abbrev pub NoRule : Type 0
@@ -104,14 +105,20 @@ module _ (p : Plant) (fair label next : List ℕ) (rule : Rule) where
 
   -- the table of each call
   abbrev pub causes : Call → Rows
-  causes prepare = ofTable (row Value NoRule end)
-  causes (opening live) = ofTable (row Value (NoRule ⊎ PairBeyond live) end)
-  causes (look m) = ofTable (row Value (NoRule ⊎ StateBeyond m) end)
-  causes (step live m e) = ofTable (row Value (NoRule ⊎ (PairBeyond live ⊎ StateBeyond m)) (row IllegalEvent (Illegal e) (row Number (OutOfTurn m e) end)))
-  causes (witness m keeps buffer) = ofTable (row Value (NoRule ⊎ StateBeyond m) (row Room (length buffer < 49152) (row NoPair (NoLive m keeps) end)))
+  causes prepare = ofTable p fair label next (row Value NoRule end)
+  causes (opening live) = ofTable p fair label next (row Value (NoRule ⊎ PairBeyond live) end)
+  causes (look m) = ofTable p fair label next (row Value (NoRule ⊎ StateBeyond m) end)
+  causes (step live m e) = ofTable p fair label next (row Value (NoRule ⊎ (PairBeyond live ⊎ StateBeyond m)) (row IllegalEvent (Illegal e) (row Number (OutOfTurn m e) end)))
+  causes (witness m keeps buffer) = ofTable p fair label next (row Value (NoRule ⊎ StateBeyond m) (row Room (length buffer < 49152) (row NoPair (NoLive m keeps) end)))
 
 -- ---- the printer
 
 -- 9 for all propositions that have a name, and 11
 abbrev pub printCauses : Rule → List ℕ → Rows
 printCauses rule buffer = row Value (RuleValue rule names → ⊥) (row Room (length buffer < length (print (formulaOf rule))) end)
+
+-- ---- the writer of tables
+
+-- 1 and 2, and 11 for a buffer shorter than the table's own text
+abbrev pub writeCauses : Plant → List ℕ → List ℕ → List ℕ → List ℕ → Rows
+writeCauses p fair label next buffer = ofTable p fair label next (row Room (length buffer < length (tableText (plantOf p fair label next))) end)

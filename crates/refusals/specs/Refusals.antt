@@ -8,7 +8,7 @@ use mathlib.Core.Bool.{Bool, true, false, So, _&&_, not, cond, false≢true}
 use mathlib.Core.List.{List}
 use lib.Dec.{leb, ltb}
 use lib.ListN.{length, getD}
-use borrow.Author.Tests.{eq-eqb, lt-ltb, leb-false, not-true}
+use borrow.Author.Tests.{eq-eqb, lt-ltb, leb-true, leb-false, not-true}
 use Rattle.meaning.specs.Formula.{Formula, parts}
 use Rattle.meaning.specs.Run as run
 use Rattle.meaning.specs.Says.{Says}
@@ -35,6 +35,8 @@ use Rattle.answers.specs.Chain.{refusedAs, differ, andThen, unless}
 use Rattle.plant.specs.declared.Plant.{Plant}
 use Rattle.plant.specs.Table.{tableOutcome, Lengths, Beyond, BitBeyond}
 use Rattle.plant.specs.Check.{beyond-exactly, counts-refused, bits-refused, one-of-three}
+use Rattle.plant_writer.specs.Writing.{itsText, writeOutcome, toldBy, writeAnswer}
+use Rattle.plant_writer.specs.OnPaper.{wrote}
 use Rattle.syntax.specs.declared.Rule.{Rule}
 use Rattle.syntax.specs.Grammar.{names}
 use Rattle.syntax.specs.Print.{print}
@@ -82,6 +84,7 @@ use Rattle.refusals.specs.Causes.{
   NoLive,
   causes,
   printCauses,
+  writeCauses,
 }
 use Rattle.refusals.specs.Judged.{
   first-one,
@@ -136,6 +139,35 @@ lit-tells (Refused r) m = refl
 answered-tells : (T : run.Plant) (f : Formula) (asked before now : List ℕ) (r : Witnessed) (o : Outcome) → AnsweredAs T f asked o before now r → Tells (witnessed r) o
 answered-tells T f asked before now r Accepted (l, e, shows) = subst (λ (r : Witnessed). Taken (witnessed r)) (sym e) (accepted-taken _)
 answered-tells T f asked before now r (Refused x) (e, same) = ap witnessed e
+
+-- 1 AND 2, OF EVERY CALL THAT TAKES A TABLE
+
+module _ (p : Plant) (fair label next : List ℕ) where
+  judged-table : {rest : Rows} {o : Outcome} → (tableOutcome p fair label next ≡ Accepted → Judged rest o) → Judged (ofTable p fair label next rest) (andThen (tableOutcome p fair label next) o)
+  unfolding First NoCause
+  judged-table {rest} {o} more = ⊎-elim (λ d. ⊎-elim fine counts d) bits (one-of-three p fair label next)
+    where
+      behind : {a : Outcome} → (tableOutcome p fair label next) ≡ a → andThen (tableOutcome p fair label next) o ≡ andThen a o
+      behind e = ap (λ x. andThen x o) e
+
+      counts : tableOutcome p fair label next ≡ refusedAs Counts → Judged (ofTable p fair label next rest) (andThen (tableOutcome p fair label next) o)
+      counts e = by-row Counts (inl (refl, counts-refused p fair label next .0 e)) (behind e)
+
+      bits : tableOutcome p fair label next ≡ refusedAs Bits → Judged (ofTable p fair label next rest) (andThen (tableOutcome p fair label next) o)
+      bits e = let (l, b) = bits-refused p fair label next .0 e in by-row Bits (inr (λ z. z l, inl (refl, b))) (behind e)
+
+      fine : tableOutcome p fair label next ≡ Accepted → Judged (ofTable p fair label next rest) (andThen (tableOutcome p fair label next) o)
+      fine e = on (more e)
+        where
+          no-counts : (Lengths p (length fair) (length label) (length next) → ⊥) → ⊥
+          no-counts z = differ Accepted (refusedAs Counts) (λ n. omega arith) e (counts-refused p fair label next .1 z)
+
+          no-bits : BitBeyond p fair label next → ⊥
+          no-bits b = no-counts (λ l. differ Accepted (refusedAs Bits) (λ n. omega arith) e (bits-refused p fair label next .1 (l, b)))
+
+          on : Judged rest o → Judged (ofTable p fair label next rest) (andThen (tableOutcome p fair label next) o)
+          on (by-row k g h) = by-row k (inr (no-counts, inr (no-bits, g))) (behind e ∙ h)
+          on (by-none n h) = by-none (no-counts, (no-bits, n)) (behind e ∙ h)
 
 -- THE CALLS THAT TAKE A TABLE AND A RULE
 
@@ -246,33 +278,6 @@ module _ (p : Plant) (fair label next : List ℕ) (rule : Rule) where
   abbrev checked : Outcome
   checked = tableOutcome p fair label next
 
-  -- 1 and 2
-  judged-table : {rest : Rows} {o : Outcome} → (checked ≡ Accepted → Judged rest o) → Judged (ofTable p fair label next rule rest) (andThen checked o)
-  unfolding First NoCause
-  judged-table {rest} {o} more = ⊎-elim (λ d. ⊎-elim fine counts d) bits (one-of-three p fair label next)
-    where
-      behind : {a : Outcome} → checked ≡ a → andThen checked o ≡ andThen a o
-      behind e = ap (λ x. andThen x o) e
-
-      counts : checked ≡ refusedAs Counts → Judged (ofTable p fair label next rule rest) (andThen checked o)
-      counts e = by-row Counts (inl (refl, counts-refused p fair label next .0 e)) (behind e)
-
-      bits : checked ≡ refusedAs Bits → Judged (ofTable p fair label next rule rest) (andThen checked o)
-      bits e = let (l, b) = bits-refused p fair label next .0 e in by-row Bits (inr (λ z. z l, inl (refl, b))) (behind e)
-
-      fine : checked ≡ Accepted → Judged (ofTable p fair label next rule rest) (andThen checked o)
-      fine e = on (more e)
-        where
-          no-counts : (Lengths p (length fair) (length label) (length next) → ⊥) → ⊥
-          no-counts z = differ Accepted (refusedAs Counts) (λ n. omega arith) e (counts-refused p fair label next .1 z)
-
-          no-bits : BitBeyond p fair label next → ⊥
-          no-bits b = no-counts (λ l. differ Accepted (refusedAs Bits) (λ n. omega arith) e (bits-refused p fair label next .1 (l, b)))
-
-          on : Judged rest o → Judged (ofTable p fair label next rule rest) (andThen checked o)
-          on (by-row k g h) = by-row k (inr (no-counts, inr (no-bits, g))) (behind e ∙ h)
-          on (by-none n h) = by-none (no-counts, (no-bits, n)) (behind e ∙ h)
-
   -- the array of a rule has 32 nodes
   module _ (full : length (rule .nodes) ≡ 32) where
     abbrev valid : Bool
@@ -283,11 +288,11 @@ module _ (p : Plant) (fair label next : List ℕ) (rule : Rule) where
 
     -- and 9, of the rule and of sets of pairs
     judged-value : {sets : Bool} {cause : Type 0} {rest : Rows} {o : Outcome} → Finds sets cause → (Input p fair label next rule → Judged rest o)
-        → Judged (ofTable p fair label next rule (row Value (NoRule p fair label next rule ⊎ cause) rest)) (andThen (checkedOf p fair label next rule sets) o)
+        → Judged (ofTable p fair label next (row Value (NoRule p fair label next rule ⊎ cause) rest)) (andThen (checkedOf p fair label next rule sets) o)
     unfolding inputOutcome
     judged-value {sets} {cause} {rest} {o} x more =
-        subst (Judged (ofTable p fair label next rule (row Value (NoRule p fair label next rule ⊎ cause) rest))) (sym chained)
-        (judged-table (λ e. judged-row Value (valid && sets) (finds-either finds-rule x)
+        subst (Judged (ofTable p fair label next (row Value (NoRule p fair label next rule ⊎ cause) rest))) (sym chained)
+        (judged-table p fair label next (λ e. judged-row Value (valid && sets) (finds-either finds-rule x)
         (λ so. more (given p fair label next rule e (valid-exactly rule (p .props) full .0 (and-says valid sets .0 so .0))))))
       where
         chained : andThen (checkedOf p fair label next rule sets) o ≡ andThen checked (andThen (unless (valid && sets) Value) o)
@@ -299,7 +304,7 @@ module _ (p : Plant) (fair label next : List ℕ) (rule : Rule) where
 
     judged : (c : Call) → Arrays c → Judged (causes p fair label next rule c) (checksOf c)
     unfolding inputOutcome askedOf witnessOutcome
-    judged prepare z = ended (subst (Judged _) (sym (in-turn checked (unless valid Value) Accepted)) (judged-table (λ e. judged-row Value valid finds-rule (λ so. judged-end))))
+    judged prepare z = ended (subst (Judged _) (sym (in-turn checked (unless valid Value) Accepted)) (judged-table p fair label next (λ e. judged-row Value valid finds-rule (λ so. judged-end))))
     judged (opening live) z = ended (judged-value (finds-beyond live z) (λ i. judged-end))
     judged (look m) z = ended (judged-value (finds-state m z) (λ i. judged-end))
     judged (step live m e) (l, z) =
@@ -353,3 +358,28 @@ module _ (rule : Rule) (buffer : List ℕ) (full : length (rule .nodes) ≡ 32) 
 
   pub print-accepted-exactly : Taken (printed (printAnswer rule buffer)) ↔ NoCause (printCauses rule buffer)
   print-accepted-exactly = taken-as (printCauses rule buffer) print-tells print-judged
+
+-- THE WRITER OF TABLES
+
+module _ (p : Plant) (fair label next buffer : List ℕ) where
+  abbrev fitsIn : Bool
+  fitsIn = leb (length (itsText p fair label next buffer)) (length buffer)
+
+  write-tells : Tells (wrote (writeAnswer p fair label next buffer)) (writeOutcome p fair label next buffer)
+  write-tells = by-case (writeOutcome p fair label next buffer)
+    where
+      by-case : (o : Outcome) → Tells (wrote (toldBy p fair label next buffer o)) o
+      by-case Accepted = accepted-taken _
+      by-case (Refused r) = refl
+
+  finds-room : Finds fitsIn (length buffer < length (itsText p fair label next buffer))
+  finds-room = record { fails = leb-false _ _; holds = λ so l. let h = leb-true (length (itsText p fair label next buffer)) (length buffer) so in omega arith }
+
+  write-judged : Judged (writeCauses p fair label next buffer) (writeOutcome p fair label next buffer)
+  write-judged = judged-table p fair label next (λ e. subst (Judged _) (no-more (unless fitsIn Room)) (judged-row Room fitsIn finds-room (λ so. judged-end)))
+
+  pub write-refused-exactly : (k : Kind) (q : ℕ) → (wrote (writeAnswer p fair label next buffer) ≡ refused (kindNumber k) q) ↔ Because (writeCauses p fair label next buffer) k q
+  write-refused-exactly = refused-as (writeCauses p fair label next buffer) write-tells write-judged
+
+  pub write-accepted-exactly : Taken (wrote (writeAnswer p fair label next buffer)) ↔ NoCause (writeCauses p fair label next buffer)
+  write-accepted-exactly = taken-as (writeCauses p fair label next buffer) write-tells write-judged
