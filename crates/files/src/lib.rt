@@ -4,7 +4,7 @@ ghost use Prim.Native.Nat.{_+_, _≤_};
 ghost use lib.ListN.{length, take};
 ghost use Rattle.io.specs.Counts.{Counts};
 ghost use Rattle.files.specs.Path.{joined, pathOf};
-ghost use Rattle.report.specs.Line.{Put};
+ghost use Rattle.writing.specs.Put.{Put};
 
 // A struct and no enum: `Counts` holds either way, so a caller takes `&buf[..len]` with no proof file.
 pub struct File {
@@ -91,9 +91,9 @@ fn put_path(folder: &[u8], name: &[u8], path: &mut [u8]) -> usize
     requires { ⌜ length (now folder) + 1 + length (now name) ≤ length (now path) ⌝ }
     ensures { λ r. ⌜ Put (now (path .entry)) 0 (joined (now (folder .entry)) (now (name .entry))) (now (path .exit)) r ⌝ }
 {
-    let slash = report::put_text(path, 0, folder);
-    let behind = report::put_text(path, slash, b"/");
-    report::put_text(path, behind, name)
+    let slash = writing::put_text(path, 0, folder);
+    let behind = writing::put_text(path, slash, b"/");
+    writing::put_text(path, behind, name)
 }
 
 // One byte is asked for behind the last one: a file that fits has ended there, a longer one has not, and one that can't be read fails.

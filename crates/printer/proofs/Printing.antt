@@ -20,8 +20,9 @@ use Rattle.syntax.specs.Value.{blank, opsOf, ruleOf, held}
 use Rattle.syntax.proofs.Values.{held-is, full-value}
 use Rattle.syntax.specs.declared.Node.{Node}
 use Rattle.syntax.specs.declared.Rule.{Rule}
+use Rattle.writing.specs.Put.{Put, put-over}
 use Rattle.printer.specs.declared.Spot.{Spot}
-use Rattle.printer.specs.Tell.{wide, ten, last, first, word, width, tell, share, shares, back, onto, Shows, Wrote, Told, Prints}
+use Rattle.printer.specs.Tell.{wide, ten, last, first, word, width, tell, share, shares, back, onto, Shows, Told, Prints}
 use Rattle.printer.proofs.Trees.{tell-leaf, tell-one, tell-two}
 
 onto-append : (os ps r : List Op) → onto (os ++ ps) r ≡ onto ps (onto os r)
@@ -189,5 +190,6 @@ printing {rule} {a} {b} {hi} {r} e x =
         let y = x .told n (omega arith) in
         let none = nothing-left (rule .nodes) (r .node) (sym (y .0) ∙ ap (λ z. z .rest) l) in
         let zero-at : r .at ≡ 0 = omega (arith, x .paid, same-room s) in
-        let w : Wrote a 0 hi (print f) b = rw (zero-at, ap (λ z. z .text) l) at (y .1) in
-        w .is
+        let w : Put a 0 (print f) b hi = rw (zero-at, ap (λ z. z .text) l) at (y .1) in
+        let (long, is) = put-over w in
+        is ∙ ap (λ (n : ℕ). print f ++ drop n a) (sym long)

@@ -1,6 +1,6 @@
 -- What is told of a rule's last node, by how many operands it has.
 use Prim.Native.Nat.{ℕ, zero, suc, _+_, _-_, _≤_, _<_}
-use mathlib.Core.Path.{_≡_, refl, ap}
+use mathlib.Core.Path.{_≡_, refl, ap, _∙_}
 use mathlib.Core.List.{List, [], _∷_, _++_}
 use native.Mathlib.Omega.{arith}
 use native.Mathlib.Numerals.{sub-one}
@@ -11,9 +11,9 @@ use Rattle.syntax.specs.declared.Node.{Node}
 use Rattle.syntax.specs.Postfix.{sides}
 use Rattle.syntax.specs.Print.{inside}
 use Rattle.syntax.specs.Value.{blank}
-use Rattle.printer.specs.Tell.{width, word, back, Line, tell, Wrote, Wording, parens, share, shares, Room, Told}
+use Rattle.printer.specs.Tell.{width, word, back, Line, tell, Wording, parens, share, shares, Room, Told}
 use Rattle.printer.specs.declared.Spot.{Spot}
-use Rattle.printer.proofs.Writes.{wrote-none, wrote-to, wrote-before, wrote-length}
+use Rattle.writing.specs.Put.{Put, put-length, put-none, put-to, put-before}
 
 -- the node before k
 abbrev pub nodeAt : List Node → ℕ → Op
@@ -51,7 +51,7 @@ many (suc (suc k)) e f = refl
 
 -- a line is told, and the nodes before j are left
 abbrev Lined : List Node → ℕ → List ℕ → ℕ → ℕ → List ℕ → Line → Type 0
-Lined ns j a lo hi b l = (l .rest ≡ back ns j) × Wrote a lo hi (l .text) b
+Lined ns j a lo hi b l = (l .rest ≡ back ns j) × Put a lo (l .text) b hi
 
 pub told-none : (ns : List Node) (k hi : ℕ) (a : List ℕ) → k ≡ 0 → hi ≤ length a → Told ns k hi a (record { node = k; at = hi }) a
 unfolding back tell
@@ -59,11 +59,11 @@ told-none ns k hi a e h = rw e (record { down = omega arith; paid = refl; told =
   where
     go : (n : ℕ) → 0 < n → Lined ns 0 a hi hi a (tell n [])
     go zero lt = absurd (omega arith)
-    go (suc n) lt = (refl, wrote-none a hi h)
+    go (suc n) lt = (refl, put-none a hi h)
 
 -- what is told fits
 pub told-fits : {ns : List Node} {k hi : ℕ} {a : List ℕ} {r : Spot} {b : List ℕ} → Told ns k hi a r b → (r .at ≤ hi) × (hi ≤ length a) × (length b ≡ length a)
-told-fits {k = k} x = let w = x .told (suc k) (omega arith) .1 in (omega (arith, w .span), w .fits, wrote-length w)
+told-fits {k = k} x = let w = x .told (suc k) (omega arith) .1 in (omega (arith, w .len), omega (arith, w .len, w .room), put-length w)
 
 -- there is a last node, and room for all
 pub record Last (ns : List Node) (k hi size : ℕ) : Type 0 where
@@ -96,12 +96,12 @@ module _ {ns : List Node} {k hi size : ℕ} (l : Last ns k hi size) where
     where
       go : (n : ℕ) → k < n → Lined ns (s .node) a r hi c (tell n (back ns k))
       go zero lt = absurd (omega arith)
-      go (suc n) lt = let some = l .some in let y = x .told n (omega arith) in rw (is, tell-one o (back ns (k - 1)) n e) (y .0, wrote-before (y .1) (w .wrote))
+      go (suc n) lt = let some = l .some in let y = x .told n (omega arith) in rw (is, tell-one o (back ns (k - 1)) n e) (y .0, put-before (y .1) (w .wrote))
 
-  pub told-two : (sides o ≡ 0 → ⊥) → (sides o ≡ 1 → ⊥) → {a b c d e f : List ℕ} {close m lead : ℕ} {s q : Spot} → Wrote a close (close + 1) (41 ∷ []) b → close + 1 ≡ hi
-      → Told ns (k - 1) close b s c → Wording c (s .at) o m d → Told ns (s .node) m d q e → Wrote e lead (lead + 1) (40 ∷ []) f → lead + 1 ≡ q .at
+  pub told-two : (sides o ≡ 0 → ⊥) → (sides o ≡ 1 → ⊥) → {a b c d e f : List ℕ} {close m lead behind past : ℕ} {s q : Spot} → Put a close (41 ∷ []) b behind → close + 1 ≡ hi
+      → Told ns (k - 1) close b s c → Wording c (s .at) o m d → Told ns (s .node) m d q e → Put e lead (40 ∷ []) f past → lead + 1 ≡ q .at
       → Told ns k hi a (record { node = q .node; at = lead }) f
-  told-two z u {a} {b} {c} {d} {e} {f} {close} {m} {lead} {s} {q} wc ec x w y wo eo =
+  told-two z u {a} {b} {c} {d} {e} {f} {close} {m} {lead} {behind} {past} {s} {q} wc ec x w y wo eo =
       record { down = omega (arith, x .down, y .down); paid = omega (arith, shared, many (sides o) z u, x .paid, w .begins, y .paid); told = go }
     where
       go : (n : ℕ) → k < n → Lined ns (q .node) a lead hi f (tell n (back ns k))
@@ -111,7 +111,7 @@ module _ {ns : List Node} {k hi size : ℕ} (l : Last ns k hi size) where
           let p = x .told n (omega arith) in
           let r = y .told n (omega (arith, x .down)) in
           rw (is, tell-two o (back ns (k - 1)) n z u, p .0)
-          (r .0, wrote-before (wrote-before (wrote-before (wrote-before (wrote-to ec wc) (p .1)) (w .wrote)) (r .1)) (wrote-to eo wo))
+          (r .0, put-before (put-before (put-before (put-before (put-to (wc .len ∙ ec) wc) (p .1)) (w .wrote)) (r .1)) (put-to (wo .len ∙ eo) wo))
 
   -- ---- the room for each part of its rule
 
@@ -131,9 +131,9 @@ module _ {ns : List Node} {k hi size : ℕ} (l : Last ns k hi size) where
     pub room-close : (1 ≤ hi) × (hi - 1 < size)
     room-close = (omega (arith, budget), omega (arith, budget, l .room .fits))
 
-    module _ {a b : List ℕ} (wb : Wrote a (hi - 1) (hi - 1 + 1) (41 ∷ []) b) where
+    module _ {a b : List ℕ} {behind : ℕ} (wb : Put a (hi - 1) (41 ∷ []) b behind) where
       pub room-right : Room ns (k - 1) (hi - 1) (length b)
-      room-right = record { nodes = omega (arith, l .room .nodes); room = omega (arith, budget); fits = omega (arith, wb .fits, wrote-length wb) }
+      room-right = record { nodes = omega (arith, l .room .nodes); room = omega (arith, budget); fits = omega (arith, wb .room, put-length wb) }
 
       module _ {s : Spot} {c : List ℕ} (x : Told ns (k - 1) (hi - 1) b s c) where
         pub room-sign : (width o ≤ s .at) × (s .at ≤ length c)
@@ -146,7 +146,7 @@ module _ {ns : List Node} {k hi size : ℕ} (l : Last ns k hi size) where
               record {
                 nodes = omega (arith, l .room .nodes, x .down);
                 room = omega (arith, budget, x .paid, w .begins);
-                fits = omega (arith, w .begins, wrote-length (w .wrote));
+                fits = omega (arith, w .begins, put-length (w .wrote));
               }
 
           pub room-lead : {q : Spot} {e : List ℕ} → Told ns (s .node) m d q e → (1 ≤ q .at) × (q .at - 1 < length e)

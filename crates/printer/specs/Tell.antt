@@ -4,7 +4,7 @@ use mathlib.Core.Path.{_≡_}
 use mathlib.Core.List.{List, [], _∷_, _++_}
 use mathlib.Core.Bool.{Bool, true, false, cond}
 use lib.Dec.{eqb, leb}
-use lib.ListN.{length, take, drop, getD}
+use lib.ListN.{length, drop, getD}
 use Rattle.syntax.specs.declared.Op.{Op}
 use Rattle.syntax.specs.declared.Op.the-variants.{False, True, Prop, Not, Next, Finally, Globally, Until, Release, And, Or, Implies}
 use Rattle.syntax.specs.declared.Node.{Node}
@@ -14,6 +14,7 @@ use Rattle.syntax.specs.Grammar.{names}
 use Rattle.syntax.specs.Postfix.{sides}
 use Rattle.syntax.specs.Print.{inside, print, Below}
 use Rattle.syntax.specs.Value.{blank, ruleOf}
+use Rattle.writing.specs.Put.{Put}
 use Rattle.printer.specs.declared.Spot.{Spot}
 
 -- whether a node's own word has a byte before its number or its last byte
@@ -112,21 +113,15 @@ tell (suc n) (o ∷ os) =
     (cond (eqb (sides o) 1) (record { text = word o ++ r .text; rest = r .rest })
     (record { text = inside (l .text) (word o) (r .text); rest = l .rest }))
 
--- b is a with t written from lo up to hi
-pub record Wrote (a : List ℕ) (lo hi : ℕ) (t b : List ℕ) : Type 0 where
-  pub is : b ≡ take lo a ++ (t ++ drop hi a)
-  pub span : lo + length t ≡ hi
-  pub fits : hi ≤ length a
-
 -- the end of a node's word, written so that it ends at hi
 pub record Ending (a : List ℕ) (hi : ℕ) (o : Op) (r : ℕ) (b : List ℕ) : Type 0 where
   pub begins : r + endWidth o ≡ hi
-  pub wrote : Wrote a r hi (ending o) b
+  pub wrote : Put a r (ending o) b hi
 
 -- the word of a node, written so that it ends at hi
 pub record Wording (a : List ℕ) (hi : ℕ) (o : Op) (r : ℕ) (b : List ℕ) : Type 0 where
   pub begins : r + width o ≡ hi
-  pub wrote : Wrote a r hi (word o) b
+  pub wrote : Put a r (word o) b hi
 
 -- the parentheses of a node with so many operands
 abbrev pub parens : ℕ → ℕ
@@ -153,7 +148,7 @@ pub record Room (ns : List Node) (k hi size : ℕ) : Type 0 where
 pub record Told (ns : List Node) (k hi : ℕ) (a : List ℕ) (r : Spot) (b : List ℕ) : Type 0 where
   pub down : r .node ≤ k
   pub paid : hi + shares (back ns (r .node)) ≡ r .at + shares (back ns k)
-  pub told : (n : ℕ) → k < n → (tell n (back ns k) .rest ≡ back ns (r .node)) × Wrote a (r .at) hi (tell n (back ns k) .text) b
+  pub told : (n : ℕ) → k < n → (tell n (back ns k) .rest ≡ back ns (r .node)) × Put a (r .at) (tell n (back ns k) .text) b hi
 
 -- the nodes os, the last one first, and then r
 unfoldable pub onto : List Op → List Op → List Op

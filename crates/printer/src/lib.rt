@@ -1,13 +1,13 @@
 // Prints a rule, from its last node and the text's last byte backwards: so no text has to be moved.
 use syntax::Op;
 use syntax::Rule;
+use writing::put_byte;
 ghost use mathlib.Core.Path.{_≡_};
-ghost use Prim.Native.Nat.{_+_, _≤_, _<_};
+ghost use Prim.Native.Nat.{_≤_};
 ghost use lib.ListN.{length};
-ghost use mathlib.Core.List.{[], _∷_};
 ghost use Rattle.syntax.specs.Value.{held};
 ghost use Rattle.syntax.specs.declared.Op.the-variants.{Prop};
-ghost use Rattle.printer.specs.Tell.{wide, ten, width, last, first, Wrote, Ending, Wording, Room, Told, share, shares, Printable, Prints};
+ghost use Rattle.printer.specs.Tell.{wide, ten, width, last, first, Ending, Wording, Room, Told, share, shares, Printable, Prints};
 
 // Whether a node's own word has a byte before its number or its last byte.
 fn is_wide(op: Op) -> bool
@@ -87,14 +87,6 @@ fn first_of(op: Op) -> u8
         Op::Or => b'p',
         Op::Implies => b'-',
     }
-}
-
-// Writes one byte.
-fn put_byte(buffer: &mut [u8], at: usize, b: u8)
-    requires { ⌜ at < length (now buffer) ⌝ }
-    ensures { λ _. ⌜ Wrote (now (buffer .entry)) at (at + 1) (b ∷ []) (now (buffer .exit)) ⌝ }
-{
-    buffer[at] = b;
 }
 
 // Writes the last byte of a node's own word, and before it the 1 of a number of two digits, so that it ends at `end`; returns where this begins.

@@ -5,5 +5,5 @@ pub mod Marked
 pub mod Laws
 pub mod Asked
 pub mod OneAnswer
-pub mod Longest
 pub mod Numbers
+pub mod WrittenBack

@@ -29,6 +29,7 @@ use Rattle.witness.specs.declared.Witnessed.the-variants as Answers
 use Rattle.witness.specs.Calls.{AnsweredAs, witnessOutcome}
 use Rattle.plant.proofs.read_table.Reads as read-table
 use Rattle.plant.proofs.check_table.Reads as check-table
+use Rattle.plant_writer.proofs.write_table.Reads as write-table
 use Rattle.rule.proofs.read_rule.Reads as read-rule
 use Rattle.rule.proofs.print_rule.Reads as print-rule
 use Rattle.rule.proofs.is_valid.Reads as is-valid
@@ -69,6 +70,11 @@ line-bytes-one κs x r r' u u' e e' = e ∙ sym e'
 pub print-rule-one :
     (κs : _) (x : _) (r r' : _) (u u' : _) → print-rule.Learnt κs x r u → print-rule.Learnt κs x r' u' → (r ≡ r') × (now (u .1 .0) ≡ now (u' .1 .0))
 print-rule-one κs x r r' u u' e e' = (e .0 ∙ sym (e' .0), e .1 ∙ sym (e' .1))
+
+-- with the buffer that a table is written into
+pub write-table-one :
+    (κs : _) (x : _) (r r' : _) (u u' : _) → write-table.Learnt κs x r u → write-table.Learnt κs x r' u' → (r ≡ r') × (now (u .1 .1 .1 .1 .0) ≡ now (u' .1 .1 .1 .1 .0))
+write-table-one κs x r r' u u' e e' = (e .0 ∙ sym (e' .0), e .1 ∙ sym (e' .1))
 
 -- ---- checks
 
@@ -135,8 +141,8 @@ write-output-one κs x r r' u u' e e' = (e .len ∙ sym (e' .len), e .bytes ∙ 
 pub any-text : ((κs : _) (x : _) → read-table.Asked κs x) × ((κs : _) (x : _) → read-rule.Asked κs x) × ((κs : _) (x : _) → read-log.Asked κs x) × ((κs : _) (x : _) → event-at.Asked κs x) × ((κs : _) (x : _) → line-bytes.Asked κs x) × ((κs : _) (x : _) → open-texts.Asked κs x) × ((κs : _) (x : _) → watch-log.Asked κs x)
 any-text = (λ κs x. tt, λ κs x. tt, λ κs x. tt, λ κs x. tt, λ κs x. tt, λ κs x. tt, λ κs x. tt)
 
-pub any-value : ((κs : _) (x : _) → check-table.Asked κs x) × ((κs : _) (x : _) → is-valid.Asked κs x) × ((κs : _) (x : _) → is-legal.Asked κs x) × ((κs : _) (x : _) → print-rule.Asked κs x)
-any-value = (λ κs x. tt, λ κs x. tt, λ κs x. tt, λ κs x. tt)
+pub any-value : ((κs : _) (x : _) → check-table.Asked κs x) × ((κs : _) (x : _) → is-valid.Asked κs x) × ((κs : _) (x : _) → is-legal.Asked κs x) × ((κs : _) (x : _) → print-rule.Asked κs x) × ((κs : _) (x : _) → write-table.Asked κs x)
+any-value = (λ κs x. tt, λ κs x. tt, λ κs x. tt, λ κs x. tt, λ κs x. tt)
 
 pub any-monitor : ((κs : _) (x : _) → prepare.Asked κs x) × ((κs : _) (x : _) → opening.Asked κs x) × ((κs : _) (x : _) → look.Asked κs x) × ((κs : _) (x : _) → step.Asked κs x) × ((κs : _) (x : _) → witness.Asked κs x)
 any-monitor = (λ κs x. tt, λ κs x. tt, λ κs x. tt, λ κs x. tt, λ κs x. tt)

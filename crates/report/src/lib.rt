@@ -1,14 +1,14 @@
-// The program's lines of output. A line grows text by text: `Put` says what each text makes of it, and `puts` (proofs/Puts.antt) that two of them are one.
+// The program's lines of output. A line grows text by text: `Put` says what each text makes of it, and `puts` (writing/specs/Put) that two of them are one.
 mod pieces;
 mod run;
 
 use crate::pieces::put_decimal;
 use crate::pieces::put_kind;
-pub use crate::pieces::put_text;
 use answers::Lamp;
 use answers::Refusal;
 use answers::Verdict;
 pub use run::run_line;
+use writing::put_text;
 ghost use mathlib.Core.Path.{_≡_};
 ghost use Prim.Native.Nat.{_+_, _≤_};
 ghost use lib.ListN.{length};

@@ -1,17 +1,9 @@
-// Texts put into a lent buffer, one behind the other. Each answer is where the text ends.
+// Numbers and words put into a lent buffer. Each answer is where the text ends.
+use writing::put_text;
 ghost use Prim.Native.Nat.{_+_, _≤_};
 ghost use lib.ListN.{length};
 ghost use Rattle.report.specs.Text.{decimal, kindWord};
 ghost use Rattle.report.specs.Line.{Put};
-
-pub fn put_text(buffer: &mut [u8], at: usize, text: &[u8]) -> usize
-    requires { ⌜ at + length (now text) ≤ length (now buffer) ⌝ }
-    ensures { λ r. ⌜ Put (now (buffer .entry)) at (now (text .entry)) (now (buffer .exit)) r ⌝ }
-{
-    let tail = &mut buffer[at..];
-    bytes::copy(text, tail);
-    at + text.len()
-}
 
 pub fn put_decimal(buffer: &mut [u8], at: usize, n: u64) -> usize
     requires { ⌜ at + 20 ≤ length (now buffer) ⌝ }

@@ -2,7 +2,7 @@
 use crate::Line;
 use crate::pieces::put_decimal;
 use crate::pieces::put_kind;
-use crate::pieces::put_text;
+use writing::put_text;
 ghost use mathlib.Core.Path.{_≡_};
 ghost use Prim.Native.Nat.{_+_, _*_, _≤_};
 ghost use lib.ListN.{length, take, drop};

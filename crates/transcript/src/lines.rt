@@ -18,7 +18,7 @@ fn put_line(out: &mut [u8], at: usize, line: Line) -> usize
 {
     let len = line.len;
     let bytes = line.bytes;
-    report::put_text(out, at, &bytes[..len])
+    writing::put_text(out, at, &bytes[..len])
 }
 
 pub fn put_refused(out: &mut [u8], at: usize, refusal: Refusal) -> usize

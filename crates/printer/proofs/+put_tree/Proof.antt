@@ -7,14 +7,14 @@ use borrow.Author.Needs.{needs}
 use lib.ListN.{length}
 use Rattle.syntax.specs.Postfix.{sides}
 use Rattle.printer.specs.Tell.{parens}
-use Rattle.printer.proofs.Writes.{wrote-length}
+use Rattle.writing.specs.Put.{put-length}
 use Rattle.printer.proofs.Trees.{nodeAt, many, Last, told-none, told-leaf, told-one, told-two, told-fits, room-leaf, room-inner, room-word, room-close, room-right, room-sign, room-left, room-lead}
 use borrow.Fn.Kinds.{In}
 use borrow.Fn.PlainCycle.{Measures, is, falls, and}
 use Rattle.printer.proofs.put_tree.Reads as put-tree
 use Rattle.printer.proofs.put_tree.Kinds as put-tree-kinds
 use Rattle.printer.proofs.+put_tree.Lts-put_tree as put-tree-lts
-use Rattle.printer.proofs.put_byte.Reads as put-byte-reads
+use Rattle.writing.proofs.put_byte.Reads as put-byte-reads
 use Rattle.printer.proofs.put_word.Reads as put-word-reads
 use Rattle.syntax.proofs.sides_of.Reads as sides-of-reads
 use Rattle.printer.proofs.+put_tree.{statement}
@@ -66,7 +66,7 @@ put-tree-put-word-requires : (t : ℕ) → put-tree-lts.Need-put-word-requires (
 put-tree-put-word-requires t c κs = room-leaf (last t (c .before .before))
 
 put-tree-same-length : (t : ℕ) → put-tree-lts.Need-same-length (calls t) (put-tree-at t) put-tree.Post
-put-tree-same-length t c = wrote-length (c .before .before .put-word .ensures .wrote)
+put-tree-same-length t c = put-length (c .before .before .put-word .ensures .wrote)
 
 put-tree-returns-2 : (t : ℕ) → put-tree-lts.Need-returns-2 (calls t) (put-tree-at t) put-tree.Post
 put-tree-returns-2 t c = told-leaf (last t (c .before .before .before .before .before)) (sym (c .before .before .before .before .before .sides-of .ensures) ∙ c .before .before .before .before .if2 .taken) (c .before .before .put-word .ensures)
@@ -78,7 +78,7 @@ put-tree-put-word-requires-2 : (t : ℕ) → put-tree-lts.Need-put-word-requires
 put-tree-put-word-requires-2 t c κs = room-word (last t (c .before .before .before .before .before .before .before)) (c .before .before .before .put-tree .ensures)
 
 put-tree-same-length-2 : (t : ℕ) → put-tree-lts.Need-same-length-2 (calls t) (put-tree-at t) put-tree.Post
-put-tree-same-length-2 t c = wrote-length (c .before .before .put-word2 .ensures .wrote) ∙ told-fits (c .before .before .before .before .before .before .put-tree .ensures) .2
+put-tree-same-length-2 t c = put-length (c .before .before .put-word2 .ensures .wrote) ∙ told-fits (c .before .before .before .before .before .before .put-tree .ensures) .2
 
 put-tree-returns-3 : (t : ℕ) → put-tree-lts.Need-returns-3 (calls t) (put-tree-at t) put-tree.Post
 put-tree-returns-3 t c = told-one (last t (c .before .before .before .before .before .before .before .before .before .before)) (sym (c .before .before .before .before .before .before .before .before .before .before .sides-of .ensures) ∙ c .before .before .before .before .before .before .before .before .if3 .taken) (c .before .before .before .before .before .before .put-tree .ensures) (c .before .before .put-word2 .ensures)
@@ -111,8 +111,8 @@ put-tree-put-byte-requires-2 t c κs =
     room-lead (last t (c .before .before .before .before .before .before .before .before .before .before .before .before .before .before .before .before .before .before .before .before)) (two t (c .before .before .before .before .before .before .before .before .before .before .before .before .before .before .before .before .before .before)) (c .before .before .before .before .before .before .before .before .before .before .before .before .before .before .before .before .put-byte .ensures) (c .before .before .before .before .before .before .before .before .before .before .before .before .put-tree2 .ensures) (c .before .before .before .before .before .before .before .before .put-word3 .ensures) (c .before .before .before .before .put-tree3 .ensures) .1
 
 put-tree-same-length-3 : (t : ℕ) → put-tree-lts.Need-same-length-3 (calls t) (put-tree-at t) put-tree.Post
-put-tree-same-length-3 t c = wrote-length (c .before .before .put-byte2 .ensures) ∙ told-fits (c .before .before .before .before .before .before .before .put-tree3 .ensures) .2 ∙ wrote-length (c .before .before .before .before .before .before .before .before .before .before .before .put-word3 .ensures .wrote)
-    ∙ told-fits (c .before .before .before .before .before .before .before .before .before .before .before .before .before .before .before .put-tree2 .ensures) .2 ∙ wrote-length (c .before .before .before .before .before .before .before .before .before .before .before .before .before .before .before .before .before .before .before .put-byte .ensures)
+put-tree-same-length-3 t c = put-length (c .before .before .put-byte2 .ensures) ∙ told-fits (c .before .before .before .before .before .before .before .put-tree3 .ensures) .2 ∙ put-length (c .before .before .before .before .before .before .before .before .before .before .before .put-word3 .ensures .wrote)
+    ∙ told-fits (c .before .before .before .before .before .before .before .before .before .before .before .before .before .before .before .put-tree2 .ensures) .2 ∙ put-length (c .before .before .before .before .before .before .before .before .before .before .before .before .before .before .before .before .before .before .before .put-byte .ensures)
 
 put-tree-returns-4 : (t : ℕ) → put-tree-lts.Need-returns-4 (calls t) (put-tree-at t) put-tree.Post
 put-tree-returns-4 t c =

@@ -1,10 +1,10 @@
--- `report::pieces::put_text` meets its contract: the tail is lent on to `bytes::copy`, and comes back (`copied`).
+-- `writing::put_text` meets its contract: the tail is lent on to `bytes::copy`, and comes back (`copied`).
 -- Assumes nothing.
 use borrow.Author.Needs.{needs}
 use native.Mathlib.Omega.{arith}
-use Rattle.report.proofs.Puts.{copied}
-use Rattle.report.proofs.pieces.put_text.Statement.{statement}
-use Rattle.report.proofs.pieces.put_text.Tie as tie
+use Rattle.writing.specs.Put.{copied}
+use Rattle.writing.proofs.put_text.Statement.{statement}
+use Rattle.writing.proofs.put_text.Tie as tie
 
 pub put-text-spec : {M : Type 1} → statement M
 put-text-spec =
