@@ -127,15 +127,15 @@ module _ (t : run.Plant) (table : AcceptedTable t) (text : List ℕ) (says : Say
       refl
 
   module _ (rule : List ℕ) (f : Formula) (rule-says : SaysBare rule (t .props) f) where
-    input : Input (countsIn t) (t .fair) (t .label) (t .next) (ruleOf f)
+    pub input : Input (countsIn t) (t .fair) (t .label) (t .next) (ruleOf f)
     input = passes t table (rule-says .says)
 
-    abbrev start : Opened
+    abbrev pub start : Opened
     start =
         let live = preparedOf (countsIn t) (t .fair) (t .label) (t .next) (ruleOf f) .live in
         made (tableOf t) (ruleOf f) live (openCall (countsIn t) (t .fair) (t .label) (t .next) (ruleOf f) live .monitor)
 
-    behind-rule : openedOf text rule ≡ start
+    pub behind-rule : openedOf text rule ≡ start
     unfolding partsOpened ruleOpened
     behind-rule = behind-table rule ∙ rw (
       ap (λ (s : List ℕ). ruleRead (countsIn t) (t .fair) (t .label) (t .next) s) (sym (rule-says .bare)) ∙ text-read t table (rule-says .says),
@@ -143,12 +143,12 @@ module _ (t : run.Plant) (table : AcceptedTable t) (text : List ℕ) (says : Say
     ) refl
 
     -- what was opened is followed with the table's own parts
-    abbrev course : List ℕ → Course
+    abbrev pub course : List ℕ → Course
     course log =
         let live = preparedOf (countsIn t) (t .fair) (t .label) (t .next) (ruleOf f) .live in
         courseOf (countsIn t) (t .fair) (t .label) (t .next) (ruleOf f) live (openCall (countsIn t) (t .fair) (t .label) (t .next) (ruleOf f) live .monitor) log
 
-    course-is : (log : List ℕ) → courseFrom start log ≡ course log
+    pub course-is : (log : List ℕ) → courseFrom start log ≡ course log
     course-is log =
         rw (
           take-padded 4 (length (t .fair)) (t .fair) refl (table .few-fair),
@@ -163,16 +163,16 @@ module _ (t : run.Plant) (table : AcceptedTable t) (text : List ℕ) (says : Say
     heard-is log room e = ap (λ (o : Opened). heardFrom o log room) behind-rule ∙ ap (λ (o : Outcome). heardIn o start log) e
 
     module _ (log : List ℕ) (es : List Event) (log-says : SaysLog (bytes log) (t .props) es) where
-      log-read : logRead (widthOf (t .props)) log ≡ record { outcome = Accepted; lines = length es }
+      pub log-read : logRead (widthOf (t .props)) log ≡ record { outcome = Accepted; lines = length es }
       log-read = ap (logRead (widthOf (t .props))) (ap bytesOf (log-says .is)) ∙ logs.small-read (widthOf (t .props)) es (log-says .text) (log-says .writable) (log-says .said) .0
 
-      taken : Taken (widthOf (t .props)) log es
+      pub taken : Taken (widthOf (t .props)) log es
       taken = subst (λ (s : List ℕ). Taken (widthOf (t .props)) s es) (sym (ap bytesOf (log-says .is))) (log-taken log-says)
 
       abbrev event : ℕ → Event
       event = eventAt (widthOf (t .props)) log
 
-      all-gone : Gone (countsIn t) (t .fair) (t .label) (t .next) (ruleOf f) input es (length es) (course log)
+      pub all-gone : Gone (countsIn t) (t .fair) (t .label) (t .next) (ruleOf f) input es (length es) (course log)
       all-gone =
           subst (λ (n : ℕ). Gone (countsIn t) (t .fair) (t .label) (t .next) (ruleOf f) input es (length es) (at (countsIn t) (t .fair) (t .label) (t .next) (ruleOf f) input es event (taken .events) n)) (sym (taken .many))
           (gone (countsIn t) (t .fair) (t .label) (t .next) (ruleOf f) input es event (taken .events) (length es) (omega arith))

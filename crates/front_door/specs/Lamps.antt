@@ -125,7 +125,7 @@ module _ (p : Plant) (fair label next : List ℕ) (rule : Rule) (input : Input p
       came [] = refl
       came (e ∷ es) = refl
 
-  all-taken-to : (es : List Event) (n : ℕ) → TakenTo es n → n ≤ length es → AllTaken p fair label next rule (take n es)
+  pub all-taken-to : (es : List Event) (n : ℕ) → TakenTo es n → n ≤ length es → AllTaken p fair label next rule (take n es)
   all-taken-to es n taken h = all-from false 0 es n taken h
 
   -- why event k is refused
@@ -162,7 +162,7 @@ module _ (p : Plant) (fair label next : List ℕ) (rule : Rule) (input : Input p
 
   module _ (es : List Event) where
     -- the lamp behind accepted events
-    behind-taken : (taken : AllTaken p fair label next rule es) → RightAfter T f es (lampIn (seen es))
+    pub behind-taken : (taken : AllTaken p fair label next rule es) → RightAfter T f es (lampIn (seen es))
     behind-taken taken = subst (λ (w : Watched). Lit T f (since (filled es)) (w .answer)) (after-model p fair label next rule input es taken) (lamp-right p fair label next rule input es taken)
 
   -- behind n events: all of them were accepted, or the one behind the first k was not

@@ -1,5 +1,5 @@
 pub mod FrontDoor
-mod Lamps
+pub mod Lamps
 mod RuleEnd
 pub mod FromTexts
 pub mod OneOutput

@@ -1,0 +1,4 @@
+pub mod Sensors
+mod Fewer
+pub mod Better
+pub mod Needed
