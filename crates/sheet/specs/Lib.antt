@@ -1,0 +1,9 @@
+pub mod Sheet
+pub mod Machine
+pub mod Examples
+pub mod Value
+pub mod Read
+pub mod Reached
+pub mod Short
+pub mod Promises
+pub mod Where

@@ -1,0 +1,1 @@
+// What is promised of the calls on sheets as they stand: theorems only, in specs/.
