@@ -1,0 +1,205 @@
+-- From texts to a closing verdict: the texts are opened, the course of the log shows the last verdict, and going back over the lines what is presumed. Here are the two claims of DayEnd
+-- proved.
+use Prim.Native.Nat.{ℕ, _/_, _≤_, _<_}
+use native.Mathlib.Omega.{arith}
+use native.Mathlib.Nat.{div-le-self}
+use mathlib.Core.Path.{_≡_, refl, sym, ap, ap₂, subst, _∙_}
+use mathlib.Core.Logic.{_⊎_, inl, inr}
+use mathlib.Core.Bool.{Bool, true, false, cond}
+use mathlib.Core.List.{List}
+use lib.Dec.{eqb, leb}
+use lib.ListN.{length, getD, take}
+use lib.Seq.{take-length}
+use borrow.Author.Tests.{eqb-true, eqb-false, le-leb}
+use Rattle.meaning.specs.Formula.{Formula}
+use Rattle.meaning.specs.Run as run
+use Rattle.meaning.specs.Event.{since}
+use Rattle.meaning.specs.Limits.{AcceptedTable}
+use Rattle.text.specs.Number.{widthOf, width-between}
+use Rattle.text.specs.Lines.{lineStart}
+use Rattle.text.specs.LinesChoice.{firstOf}
+use Rattle.answers.specs.declared.Verdict.{Verdict}
+use Rattle.answers.specs.declared.Verdict.the-variants as Verdicts
+use Rattle.answers.specs.declared.Lamp.{Lamp}
+use Rattle.answers.specs.declared.Kind.the-variants.{ClosingEdition, Room}
+use Rattle.answers.specs.declared.Refusal.{Refusal}
+use Rattle.answers.specs.declared.Outcome.{Outcome}
+use Rattle.answers.specs.declared.Outcome.the-variants as Outcomes
+use Rattle.answers.specs.Paper.{numberOf, refusedAt}
+use Rattle.answers.specs.Chain.{andThen, unless}
+use Rattle.plant.specs.Read.{countsIn, tableOf}
+use Rattle.syntax.specs.Value.{ruleOf}
+use Rattle.syntax.proofs.Printed.{below-more}
+use Rattle.log.specs.declared.Event.{Event}
+use Rattle.log.specs.declared.LogRead.{LogRead}
+use Rattle.log.specs.Line.{lineBytes}
+use Rattle.log.specs.Log.{nothing, gives}
+use Rattle.log.specs.Read.{bytesIn, logRead, eventAt, wholeLines}
+use Rattle.log.specs.Promises.{accepted-text}
+use Rattle.log.specs.Forms.{lines-many}
+use Rattle.checks.specs.Input.{formula-is}
+use Rattle.advance.specs.declared.Monitor.{Monitor}
+use Rattle.advance.specs.Held.{modelOf, lampIn}
+use Rattle.monitor.specs.declared.Watched.{Watched}
+use Rattle.watching.specs.Filled.{filled}
+use Rattle.watching.specs.Watching as watching
+use Rattle.watching.specs.Watching.{after-model}
+use Rattle.course.specs.Course.{Course}
+use Rattle.opened.specs.declared.Opened.{Opened}
+use Rattle.opened.specs.Opened.{openedOf}
+use Rattle.controller.specs.Whole.{logChecked, courseFrom, heardIn, heardOf}
+use Rattle.transcript.specs.Said.{bytes}
+use Rattle.front_door.specs.FrontDoor.{SaysTable, SaysLog, TakenAt, RightAfter, lineOf}
+use Rattle.front_door.specs.WholeLog.{VerdictAfter, SaysBare}
+use Rattle.front_door.specs.FromTexts.{value}
+use Rattle.front_door.specs.FromLog.{input, start, behind-rule, course, course-is, log-read, taken, all-gone}
+use Rattle.front_door.specs.Lamps.{Gone, all-taken, stopped, Stop, illegal, stray, all-taken-to, behind-taken, watched}
+use Rattle.front_door.specs.OneOutput.{lit-right}
+use Rattle.closing.specs.declared.ClosingVerdict.{ClosingVerdict}
+use Rattle.closing.specs.declared.Closed.{Closed}
+use Rattle.closing.specs.declared.Closed.the-variants.{At, Refused}
+use Rattle.closing.specs.Closing.{ofVerdict, presumedOf, secondOf, closedAt, stoppedAt, closedWent, closedIn, closedFrom, closedOf}
+use Rattle.closing_right.specs.DayEnd.{stretch, Presumed, Closes, first, decided, presumed, no-edition, Day, at-end, at-event, at-number, DayEnd, Likewise, AsWatched}
+use Rattle.closing_right.specs.Plain.{uses-some}
+use Rattle.closing_right.specs.Presumes.{presumes}
+
+-- ---- by the edition
+
+module _ (t : run.Plant) (f : Formula) (es : List Event) (c : ClosingVerdict) (presume : VerdictAfter t f es Verdicts.Inconclusive → Presumed f (stretch (since (filled es))) c) where
+  by-second : (v : Verdict) → VerdictAfter t f es v → Closes t f es 2 (At (secondOf v c))
+  by-second Verdicts.Inconclusive right = presumed c right (presume right)
+  by-second Verdicts.True right = decided Verdicts.True right (λ e. let z : _≡_ {A = ℕ} 1 0 = ap numberOf e in omega arith)
+  by-second Verdicts.False right = decided Verdicts.False right (λ e. let z : _≡_ {A = ℕ} 2 0 = ap numberOf e in omega arith)
+  by-second Verdicts.OutOfModel right = decided Verdicts.OutOfModel right (λ e. let z : _≡_ {A = ℕ} 3 0 = ap numberOf e in omega arith)
+
+  closes : (edition : ℕ) (v : Verdict) → VerdictAfter t f es v
+      → Closes t f es edition (cond (eqb edition 1) (At (ofVerdict v)) (cond (eqb edition 2) (At (secondOf v c)) (Refused (refusedAt ClosingEdition 0))))
+  closes edition v right = by (eqb edition 1) refl (eqb edition 2) refl
+    where
+      by : (a : Bool) → eqb edition 1 ≡ a → (b : Bool) → eqb edition 2 ≡ b
+          → Closes t f es edition (cond a (At (ofVerdict v)) (cond b (At (secondOf v c)) (Refused (refusedAt ClosingEdition 0))))
+      by true e b g = subst (λ (n : ℕ). Closes t f es n (At (ofVerdict v))) (sym (eqb-true edition 1 e)) (first v right)
+      by false e true g = subst (λ (n : ℕ). Closes t f es n (At (secondOf v c))) (sym (eqb-true edition 2 g)) (by-second v right)
+      by false e false g = no-edition edition (eqb-false edition 1 e) (eqb-false edition 2 g)
+
+-- ---- texts that say a table, a rule and events
+
+module _ (t : run.Plant) (table : AcceptedTable t) (text : List ℕ) (says : SaysTable (bytes text) t) (rule : List ℕ) (f : Formula) (rule-says : SaysBare rule (t .props) f)
+    (log : List ℕ) (es : List Event) (log-says : SaysLog (bytes log) (t .props) es) (edition : ℕ) where
+  abbrev o : Opened
+  o = start t table text says rule f rule-says
+
+  abbrev w : ℕ
+  w = widthOf (t .props)
+
+  abbrev n : ℕ
+  n = length es
+
+  abbrev event : ℕ → Event
+  event k = getD es k nothing
+
+  -- how a course ends
+  abbrev ending : Course → Closed
+  ending c = closedWent (c .went .outcome) (c .went) (bytesIn w log) (closedAt (ruleOf f) (eventAt w log) (wholeLines w log) (c .went .monitor) edition)
+
+  closed-is : closedOf text rule log edition ≡ ending (course t table text says rule f rule-says log)
+  unfolding closedOf
+  closed-is =
+      ap (λ (x : Opened). closedFrom x log edition) (behind-rule t table text says rule f rule-says)
+      ∙ ap (λ (r : LogRead). closedIn (r .outcome) o log edition) (log-read t table text says rule f rule-says log es log-says)
+      ∙ ap ending (course-is t table text says rule f rule-says log)
+
+  presume : VerdictAfter t f es Verdicts.Inconclusive → Presumed f (stretch (since (filled es))) (presumedOf (ruleOf f) event n)
+  presume right =
+      presumes f (rule-says .says .small) (below-more (t .props) 64 (omega (arith, table .few-props)) f (rule-says .says .below)) w (width-between (t .props) .1) es (log-says .writable)
+      (uses-some t f (since (filled es)) right)
+
+  -- the lines of the text are the events
+  same : (last : Monitor) → closedAt (ruleOf f) (eventAt w log) (wholeLines w log) last edition ≡ closedAt (ruleOf f) event n last edition
+  same last =
+      let lines = taken t table text says rule f rule-says log es log-says in
+      let events : eventAt w log ≡ event = λ i k. lines .events k i in
+      ap₂ (λ (e : ℕ → Event) (k : ℕ). closedAt (ruleOf f) e k last edition) events (lines .many)
+
+  ended : (last : Monitor) → RightAfter t f es (lampIn (modelOf last)) → Closes t f es edition (closedAt (ruleOf f) event n last edition)
+  unfolding closedAt
+  ended last right = closes t f es (presumedOf (ruleOf f) event n) presume edition (lampIn (modelOf last) .verdict) (lit-right t f (lampIn (modelOf last)) right)
+
+  -- the monitor behind all events, and its lamp
+  abbrev last : Monitor
+  last = watched (countsIn t) (t .fair) (t .label) (t .next) (ruleOf f) (input t table text says rule f rule-says) (take n es) .monitor
+
+  moved : {g h : Formula} {l : Lamp} → g ≡ h → RightAfter t g es l → RightAfter t h es l
+  moved {l = l} e right = subst (λ (x : Formula). RightAfter t x es l) e right
+
+  lamp-right : ((k : ℕ) → k < n → TakenAt t es k) → RightAfter t f es (lampIn (modelOf last))
+  lamp-right all =
+      let given = input t table text says rule f rule-says in
+      let accepted = subst (watching.AllTaken (countsIn t) (t .fair) (t .label) (t .next) (ruleOf f)) (take-length es) (all-taken-to (countsIn t) (t .fair) (t .label) (t .next) (ruleOf f) given es n all (omega arith)) in
+      let shown = ap (watching.after (countsIn t) (t .fair) (t .label) (t .next) (ruleOf f)) (take-length es) ∙ after-model (countsIn t) (t .fair) (t .label) (t .next) (ruleOf f) given es accepted in
+      subst (λ (x : Watched). RightAfter t f es (lampIn (modelOf (x .monitor)))) (sym shown) (moved (formula-is (value t table (rule-says .says))) (behind-taken (countsIn t) (t .fair) (t .label) (t .next) (ruleOf f) given es accepted))
+
+  stopped-as : (k : ℕ) → k < n → ((j : ℕ) → j < k → TakenAt t es j) → (r : Refusal) → Stop (countsIn t) (t .fair) (t .label) (t .next) (ruleOf f) (input t table text says rule f rule-says) es k r
+      → Day t f es edition (stoppedAt r k (lineOf t es k))
+  stopped-as k low before r (illegal bad) = at-event k low before bad
+  stopped-as k low before r (stray fine bad) = at-number k low before fine bad
+
+  day-of : (c : Course) → Gone (countsIn t) (t .fair) (t .label) (t .next) (ruleOf f) (input t table text says rule f rule-says) es n c → Day t f es edition (ending c)
+  day-of c (all-taken lamps many named as-many all right numbers is) =
+      rw is (at-end (closedAt (ruleOf f) (eventAt w log) (wholeLines w log) last edition) all (rw (same last) (ended last (lamp-right all))))
+  day-of c (stopped k low lamps many named as-many before r why right numbers m is) =
+      rw (is, taken t table text says rule f rule-says log es log-says .wide) (stopped-as k low before r why)
+
+  day : Day t f es edition (closedOf text rule log edition)
+  day = rw closed-is (day-of (course t table text says rule f rule-says log) (all-gone t table text says rule f rule-says log es log-says))
+
+-- THE CLOSING VERDICT IS RIGHT
+pub day-end-right : DayEnd
+day-end-right table rule log edition t f es table-says accepted rule-says log-says = day t accepted table table-says rule f rule-says log es log-says edition
+
+-- ---- any texts
+
+module _ (o : Opened) (log : List ℕ) (room edition : ℕ) where
+  abbrev width : ℕ
+  width = widthOf (o .table .plant .props)
+
+  abbrev read : LogRead
+  read = logRead width log
+
+  -- behind the events: a closing verdict, or 21
+  answered : (v : Verdict) (k : ClosingVerdict) → (a b : Bool)
+      → ((x : ClosingVerdict) × (cond a (At (ofVerdict v)) (cond b (At (secondOf v k)) (Refused (refusedAt ClosingEdition 0))) ≡ At x))
+      ⊎ (cond a (At (ofVerdict v)) (cond b (At (secondOf v k)) (Refused (refusedAt ClosingEdition 0))) ≡ Refused (refusedAt ClosingEdition 0))
+  answered v k true b = inl (ofVerdict v, refl)
+  answered v k false true = inl (secondOf v k, refl)
+  answered v k false false = inr refl
+
+  by-course : (x : Outcome) → courseFrom o log .went .outcome ≡ x → Likewise (heardIn Outcomes.Accepted o log .answer) (closedIn Outcomes.Accepted o log edition)
+  unfolding closedAt
+  by-course Outcomes.Accepted e = rw e (answered (lampIn (modelOf (courseFrom o log .went .monitor)) .verdict) (presumedOf (o .rule) (eventAt width log) (wholeLines width log)) (eqb edition 1) (eqb edition 2))
+  by-course (Outcomes.Refused r) e = rw e refl
+
+  by-log : (x : Outcome) → (x ≡ Outcomes.Accepted → leb (read .lines) room ≡ true)
+      → Likewise (heardIn (andThen x (unless (leb (read .lines) room) Room)) o log .answer) (closedIn x o log edition)
+  by-log Outcomes.Accepted h = rw (h refl) (by-course (courseFrom o log .went .outcome) refl)
+  by-log (Outcomes.Refused r) h = refl
+
+  by-opened : (x : Outcome) → (read .outcome ≡ Outcomes.Accepted → leb (read .lines) room ≡ true)
+      → Likewise (heardIn (andThen x (logChecked (o .table .plant .props) log room)) o log .answer) (closedIn (andThen x (read .outcome)) o log edition)
+  unfolding logChecked
+  by-opened Outcomes.Accepted h = by-log (read .outcome) h
+  by-opened (Outcomes.Refused r) h = refl
+
+-- a log has no more lines than bytes
+few-lines : (width : ℕ) (log : List ℕ) → logRead width log .outcome ≡ Outcomes.Accepted → logRead width log .lines ≤ length log
+few-lines width log ok =
+    let (es, fine, small, lines, at) = accepted-text width log ok in
+    omega (arith, lines, lines-many width es log fine small .0, div-le-self (length log) (bytesIn width log))
+
+-- ANY TEXTS ARE REFUSED AS A WHOLE LOG IS
+pub as-watched : AsWatched
+unfolding heardOf closedOf
+as-watched table rule log before edition room =
+    let o = openedOf table rule in
+    by-opened o log (length before) edition (o .outcome)
+    (λ ok. le-leb _ (length before) (omega (arith, few-lines (widthOf (o .table .plant .props)) log ok, room)))

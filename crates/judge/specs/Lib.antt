@@ -1,0 +1,6 @@
+pub mod Unfold
+pub mod Back
+pub mod Sides
+pub mod Stack
+pub mod Rows
+pub mod Turns
