@@ -1,0 +1,9 @@
+pub mod Around
+pub mod Places
+pub mod Round
+pub mod Rows
+pub mod Fill
+pub mod Turns
+pub mod Right
+pub mod Along
+pub mod Sense

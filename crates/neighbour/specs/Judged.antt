@@ -1,0 +1,108 @@
+-- WHAT A REPORT IS ANSWERED: the texts are opened, the log is checked, and the public step is taken line after line. Behind the last event the claim and the lengths are
+-- checked, then the needed runs are, and then the claim is compared with the verdict.
+use Prim.Native.Nat.{ℕ}
+use mathlib.Core.Bool.{Bool, true, false, _||_, cond}
+use mathlib.Core.List.{List}
+use lib.Dec.{eqb}
+use lib.ListN.{take}
+use Rattle.answers.specs.declared.Verdict.{Verdict}
+use Rattle.answers.specs.declared.Refusal.{Refusal}
+use Rattle.answers.specs.declared.Outcome.{Outcome}
+use Rattle.answers.specs.declared.Outcome.the-variants as Outcomes
+use Rattle.answers.specs.Paper.{numberOf, refusedAt}
+use Rattle.answers.specs.Chain.{andThen}
+use Rattle.text.specs.Number.{widthOf}
+use Rattle.text.specs.Lines.{lineStart}
+use Rattle.plant.specs.declared.Plant.{Plant}
+use Rattle.syntax.specs.declared.Rule.{Rule}
+use Rattle.log.specs.declared.Event.{Event}
+use Rattle.log.specs.Read.{bytesIn, logRead, eventAt, wholeLines}
+use Rattle.advance.specs.declared.Monitor.{Monitor}
+use Rattle.advance.specs.Held.{modelOf, lampIn}
+use Rattle.course.specs.declared.Went.{Went}
+use Rattle.opened.specs.declared.Opened.{Opened}
+use Rattle.opened.specs.Opened.{fairIn, labelIn, nextIn, openedOf}
+use Rattle.controller.specs.Whole.{courseFrom}
+use Rattle.shown.specs.declared.Found.{Found}
+use Rattle.shown.specs.declared.Found.the-variants.{Correct, Fails}
+use Rattle.shown.specs.Positions.{markOf}
+use Rattle.shown.specs.Tests.{checkedOf}
+use Rattle.neighbour.specs.declared.report.ShownRun.{ShownRun}
+use Rattle.neighbour.specs.declared.report.Report.{Report}
+use Rattle.neighbour.specs.declared.Judged.{Judged}
+use Rattle.neighbour.specs.declared.Judged.the-variants.{Accepted, WrongRun, WrongVerdict, Stopped, Refused}
+use Rattle.neighbour.specs.Report.{needsOf, reportChecked}
+
+-- ---- by what was found of the two runs
+
+-- the verdict is as claimed; of an inconclusive one two right runs are proof enough
+unfoldable pub confirmedBy : ℕ → Verdict → Bool
+confirmedBy claim v = eqb claim 0 || eqb claim (numberOf v)
+
+-- behind a run that keeps the rule and is right, or not needed
+abbrev pub decidedSecond : ℕ → Verdict → Found → Judged
+decidedSecond claim v (Fails x) = WrongRun (record { keeps = false; failing = x })
+decidedSecond claim v Correct = cond (confirmedBy claim v) Accepted WrongVerdict
+
+abbrev pub decidedOf : ℕ → Verdict → Found → Found → Judged
+decidedOf claim v (Fails x) second = WrongRun (record { keeps = true; failing = x })
+decidedOf claim v Correct second = decidedSecond claim v second
+
+-- a check, and what comes behind it
+abbrev pub unlessRefused : Outcome → Judged → Judged
+unlessRefused Outcomes.Accepted j = j
+unlessRefused (Outcomes.Refused r) j = Refused r
+
+-- ---- of n events
+
+module _ (p : Plant) (fair label next : List ℕ) (rule : Rule) (event : ℕ → Event) (n : ℕ) where
+  -- what the check finds of a run of the kind; nothing where the claim does not need it
+  unfoldable pub lookedAt : ℕ → ℕ → Bool → ShownRun → Found
+  lookedAt mark claim keeps run = cond (needsOf claim keeps) (checkedOf p fair label next rule event n mark keeps (take (run .len) (run .states)) (run .stem)) Correct
+
+  -- both runs, judged at the last restart, and then the verdict
+  unfoldable pub reportJudged : Verdict → Report → Judged
+  reportJudged v r = decidedOf (r .claim) v (lookedAt (markOf event n) (r .claim) true (r .keeping)) (lookedAt (markOf event n) (r .claim) false (r .breaking))
+
+  -- with the monitor behind the last event
+  unfoldable pub judgedAt : Monitor → Report → Judged
+  judgedAt last r = unlessRefused (reportChecked (r .claim) (r .keeping .long) (r .breaking .long)) (reportJudged (lampIn (modelOf last) .verdict) r)
+
+-- ---- the log
+
+-- an event is refused behind so many, and its line is at `offset`
+abbrev pub stoppedAt : Refusal → ℕ → ℕ → Judged
+stoppedAt r done offset = Stopped (record { refusal = refusedAt (r .kind) offset; event = done })
+
+-- how the course of a log ended
+abbrev pub judgedWent : Outcome → Went → ℕ → Judged → Judged
+judgedWent Outcomes.Accepted w bytes end = end
+judgedWent (Outcomes.Refused r) w bytes end = stoppedAt r (w .done) (lineStart bytes (w .done))
+
+-- of the table as many parts are lent as it counts; with the verdict, and with the monitor behind the last event
+abbrev pub judgedWith : Opened → List ℕ → Verdict → Report → Judged
+judgedWith o log v r =
+    let width = widthOf (o .table .plant .props) in
+    reportJudged (o .table .plant) (fairIn (o .table)) (labelIn (o .table)) (nextIn (o .table)) (o .rule) (eventAt width log) (wholeLines width log) v r
+
+abbrev pub judgedEnd : Opened → List ℕ → Monitor → Report → Judged
+judgedEnd o log last r =
+    let width = widthOf (o .table .plant .props) in
+    judgedAt (o .table .plant) (fairIn (o .table)) (labelIn (o .table)) (nextIn (o .table)) (o .rule) (eventAt width log) (wholeLines width log) last r
+
+abbrev pub judgedFollowed : Opened → List ℕ → Report → Judged
+judgedFollowed o log r =
+    let went = courseFrom o log .went in
+    judgedWent (went .outcome) went (bytesIn (widthOf (o .table .plant .props)) log) (judgedEnd o log (went .monitor) r)
+
+-- behind the checks of the texts
+abbrev pub judgedIn : Outcome → Opened → List ℕ → Report → Judged
+judgedIn Outcomes.Accepted o log r = judgedFollowed o log r
+judgedIn (Outcomes.Refused x) o log r = Refused x
+
+abbrev pub judgedFrom : Opened → List ℕ → Report → Judged
+judgedFrom o log r = judgedIn (andThen (o .outcome) (logRead (widthOf (o .table .plant .props)) log .outcome)) o log r
+
+-- the texts of a table, a rule and a log, and a report on them
+unfoldable pub judgedOf : List ℕ → List ℕ → List ℕ → Report → Judged
+judgedOf table rule log r = judgedFrom (openedOf table rule) log r

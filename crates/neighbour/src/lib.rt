@@ -1,0 +1,315 @@
+// A neighbour's report checked: table, rule and log as texts, a claimed verdict, and complete runs. Each run that the claim needs is judged by what runs and rules
+// mean, and not by our monitor; only a claim that one run can't prove is compared with our verdict.
+pub mod report;
+
+use advance::Monitor;
+use advance::lamp;
+use answers::Outcome;
+use answers::Refusal;
+use answers::Verdict;
+use controller::Stop;
+use opened::Opened;
+use opened::open_texts;
+use pairs::Pairs;
+use plant::Plant;
+use plant::Table;
+use report::Report;
+use report::ShownRun;
+use report::check_report;
+use report::needs;
+use shown::Failing;
+use shown::Found;
+use shown::check_run;
+use shown::positions::mark_of;
+use syntax::Rule;
+ghost use mathlib.Core.Path.{_≡_};
+ghost use Prim.Native.Nat.{_≤_};
+ghost use Rattle.answers.specs.declared.Outcome.the-variants.{Accepted};
+ghost use Rattle.text.specs.Number.{widthOf};
+ghost use Rattle.log.specs.Read.{logRead, eventAt, wholeLines};
+ghost use Rattle.opened.specs.Lent.{Lent};
+ghost use Rattle.opened.specs.Fits.{Fits};
+ghost use Rattle.neighbour.specs.Report.{Sized, RunSized, reportOf};
+ghost use Rattle.neighbour.specs.Judged.{lookedAt, confirmedBy, decidedSecond, decidedOf, reportJudged, stoppedAt, judgedWith, judgedEnd, judgedIn, judgedOf};
+
+// Which run is wrong, the one that keeps the rule or the one that breaks it, and the first rule that it fails.
+pub struct Fault {
+    pub keeps: bool,
+    pub failing: Failing,
+}
+
+// The report is right; or a run in it is wrong; or its claim is, though the run is right; or an event was refused; or a text, the claim or a run's length was.
+pub enum Judged {
+    Accepted,
+    WrongRun(Fault),
+    WrongVerdict,
+    Stopped(Stop),
+    Refused(Refusal),
+}
+
+// Refusals 3, 2; 4 to 8; 12; then an event's 10 or 16, at the offset of its line; then 9 for the claim, and 22 for a run that is needed and too long. Then the needed
+// runs, the one that keeps the rule first, and then the verdict. A run that the claim does not need is not looked at.
+pub fn judge_report(
+    table: &[u8],
+    rule: &[u8],
+    log: &[u8],
+    claim: u8,
+    keep_stem: &[u8],
+    keep_loop: &[u8],
+    break_stem: &[u8],
+    break_loop: &[u8],
+) -> Judged
+    ensures { λ r. ⌜ r ≡ judgedOf (now (table .entry)) (now (rule .entry)) (now (log .entry)) (reportOf claim (now («keep_stem» .entry)) (now («keep_loop» .entry)) (now («break_stem» .entry)) (now («break_loop» .entry))) ⌝ }
+{
+    let keeping = ShownRun::of(keep_stem, keep_loop);
+    let breaking = ShownRun::of(break_stem, break_loop);
+    judge_runs(
+        table,
+        rule,
+        log,
+        Report {
+            claim,
+            keeping,
+            breaking,
+        },
+    )
+}
+
+// With the two runs put together.
+fn judge_runs(table: &[u8], rule: &[u8], log: &[u8], report: Report) -> Judged
+    requires { ⌜ Sized report ⌝ }
+    ensures { λ r. ⌜ r ≡ judgedOf (now (table .entry)) (now (rule .entry)) (now (log .entry)) report ⌝ }
+{
+    let opened = open_texts(table, rule);
+    let outcome = opened.outcome;
+    match outcome {
+        Outcome::Refused(refusal) => Judged::Refused(refusal),
+        Outcome::Accepted => with_opened(opened, log, report),
+    }
+}
+
+// The form of the log, behind a table and a rule that were accepted.
+fn with_opened(opened: Opened, log: &[u8], report: Report) -> Judged
+    requires { ⌜ Lent (opened .table) × Fits opened × Sized report ⌝ }
+    ensures { λ r. ⌜ r ≡ judgedIn (logRead (widthOf (opened .table .plant .props)) (now (log .entry)) .outcome) opened (now (log .entry)) report ⌝ }
+{
+    let table = opened.table;
+    let plant = table.plant;
+    let read = log::read_log(log, plant.props);
+    let outcome = read.outcome;
+    match outcome {
+        Outcome::Refused(refusal) => Judged::Refused(refusal),
+        Outcome::Accepted => follow_log(opened, log, report),
+    }
+}
+
+// Our own verdict, by the log's lines. No lamp but the last is asked for.
+fn follow_log(opened: Opened, log: &[u8], report: Report) -> Judged
+    requires { ⌜ Lent (opened .table) × Fits opened × Sized report ⌝ }
+    ensures { λ r. ⌜ r ≡ judgedIn Accepted opened (now (log .entry)) report ⌝ }
+{
+    let table: Table = opened.table;
+    let plant: Plant = table.plant;
+    let just = plant.just;
+    let states = plant.states;
+    let fair = table.fair;
+    let label = table.label;
+    let next = table.next;
+    let rule: Rule = opened.rule;
+    let live: Pairs = opened.live;
+    let monitor: Monitor = opened.monitor;
+    let mut verdicts = [0u8; 0];
+    let mut lefts = [0u8; 0];
+    let mut numbers = [0u64; 0];
+    let went = course::follow(
+        plant,
+        &fair[..just],
+        &label[..states],
+        &next[..states],
+        rule,
+        live,
+        monitor,
+        log,
+        &mut verdicts,
+        &mut lefts,
+        &mut numbers,
+    );
+    let outcome = went.outcome;
+    let done = went.done;
+    let last = went.monitor;
+    let offset = done * log::line_bytes(log, plant.props);
+    match outcome {
+        Outcome::Refused(refusal) => stopped(refusal, done, offset),
+        Outcome::Accepted => at_end(opened, log, last, report),
+    }
+}
+
+// An event is refused behind so many, and its line is at `offset`.
+fn stopped(refusal: Refusal, done: usize, offset: usize) -> Judged
+    ensures { λ r. ⌜ r ≡ stoppedAt refusal done offset ⌝ }
+{
+    let kind = refusal.kind;
+    Judged::Stopped(Stop {
+        refusal: Refusal::at(kind, offset),
+        event: done,
+    })
+}
+
+// Behind the last event: the claim and the lengths of the runs are checked, and then the report is judged.
+fn at_end(opened: Opened, log: &[u8], last: Monitor, report: Report) -> Judged
+    requires { ⌜ Lent (opened .table) × (opened .rule .len ≤ 32) × Sized report ⌝ }
+    ensures { λ r. ⌜ r ≡ judgedEnd opened (now (log .entry)) last report ⌝ }
+{
+    let claim = report.claim;
+    let keeping = report.keeping;
+    let breaking = report.breaking;
+    let outcome = check_report(claim, keeping.long, breaking.long);
+    let shown = lamp(last);
+    let verdict = shown.verdict;
+    match outcome {
+        Outcome::Refused(refusal) => Judged::Refused(refusal),
+        Outcome::Accepted => with_verdict(opened, log, verdict, report),
+    }
+}
+
+// Of the table, as many parts are lent as it counts.
+fn with_verdict(opened: Opened, log: &[u8], verdict: Verdict, report: Report) -> Judged
+    requires { ⌜ Lent (opened .table) × (opened .rule .len ≤ 32) × Sized report ⌝ }
+    ensures { λ r. ⌜ r ≡ judgedWith opened (now (log .entry)) verdict report ⌝ }
+{
+    let table: Table = opened.table;
+    let plant: Plant = table.plant;
+    let just = plant.just;
+    let states = plant.states;
+    let fair = table.fair;
+    let label = table.label;
+    let next = table.next;
+    let rule: Rule = opened.rule;
+    judge_both(
+        plant,
+        &fair[..just],
+        &label[..states],
+        &next[..states],
+        rule,
+        log,
+        verdict,
+        report,
+    )
+}
+
+// The needed runs, and then the verdict.
+fn judge_both(
+    plant: Plant,
+    fair: &[u64],
+    label: &[u16],
+    next: &[u64],
+    rule: Rule,
+    log: &[u8],
+    verdict: Verdict,
+    report: Report,
+) -> Judged
+    requires { ⌜ (rule .len ≤ 32) × Sized report ⌝ }
+    ensures { λ r. ⌜ r ≡ reportJudged plant (now (fair .entry)) (now (label .entry)) (now (next .entry)) rule (eventAt (widthOf (plant .props)) (now (log .entry))) (wholeLines (widthOf (plant .props)) (now (log .entry))) verdict report ⌝ }
+{
+    let claim = report.claim;
+    let keeping: ShownRun = report.keeping;
+    let breaking: ShownRun = report.breaking;
+    let mark = mark_of(log, plant.props);
+    let first = look_at(
+        plant,
+        fair,
+        label,
+        next,
+        rule,
+        log,
+        mark,
+        claim,
+        true,
+        keeping,
+    );
+    let second = look_at(
+        plant,
+        fair,
+        label,
+        next,
+        rule,
+        log,
+        mark,
+        claim,
+        false,
+        breaking,
+    );
+    decide(claim, verdict, first, second)
+}
+
+// What the check finds of a run of the kind; nothing where the claim does not need it.
+fn look_at(
+    plant: Plant,
+    fair: &[u64],
+    label: &[u16],
+    next: &[u64],
+    rule: Rule,
+    log: &[u8],
+    mark: usize,
+    claim: u8,
+    keeps: bool,
+    run: ShownRun,
+) -> Found
+    requires { ⌜ (rule .len ≤ 32) × RunSized run ⌝ }
+    ensures { λ r. ⌜ r ≡ lookedAt plant (now (fair .entry)) (now (label .entry)) (now (next .entry)) rule (eventAt (widthOf (plant .props)) (now (log .entry))) (wholeLines (widthOf (plant .props)) (now (log .entry))) mark claim keeps run ⌝ }
+{
+    if !needs(claim, keeps) {
+        return Found::Correct;
+    }
+    let states = run.states;
+    let len = run.len;
+    check_run(
+        plant,
+        fair,
+        label,
+        next,
+        rule,
+        log,
+        mark,
+        keeps,
+        &states[..len],
+        run.stem,
+    )
+}
+
+// Whether the verdict is as claimed. Two right runs prove that it is inconclusive.
+fn confirms(claim: u8, verdict: Verdict) -> bool
+    ensures { λ r. ⌜ r ≡ confirmedBy claim verdict ⌝ }
+{
+    (claim == Verdict::INCONCLUSIVE) | (claim == verdict.number())
+}
+
+// By what was found of the two runs.
+fn decide(claim: u8, verdict: Verdict, first: Found, second: Found) -> Judged
+    ensures { λ r. ⌜ r ≡ decidedOf claim verdict first second ⌝ }
+{
+    match first {
+        Found::Fails(failing) => Judged::WrongRun(Fault {
+            keeps: true,
+            failing,
+        }),
+        Found::Correct => decide_second(claim, verdict, second),
+    }
+}
+
+fn decide_second(claim: u8, verdict: Verdict, second: Found) -> Judged
+    ensures { λ r. ⌜ r ≡ decidedSecond claim verdict second ⌝ }
+{
+    match second {
+        Found::Fails(failing) => Judged::WrongRun(Fault {
+            keeps: false,
+            failing,
+        }),
+        Found::Correct => {
+            if confirms(claim, verdict) {
+                return Judged::Accepted;
+            }
+            Judged::WrongVerdict
+        }
+    }
+}
