@@ -1,0 +1,5 @@
+pub mod Afresh
+pub mod Calls
+pub mod Code
+pub mod Right
+pub mod Promises

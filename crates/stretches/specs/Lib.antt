@@ -1,0 +1,4 @@
+pub mod Sheet
+pub mod Afresh
+pub mod Example
+pub mod Laws
