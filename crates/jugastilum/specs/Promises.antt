@@ -12,7 +12,7 @@ use Rattle.meaning.specs.Formula.{Formula}
 use Rattle.words.specs.Lists.{length-list, length-words}
 use Rattle.model.specs.Monitor as model
 use Rattle.answers.specs.declared.Kind.{Kind}
-use Rattle.answers.specs.declared.Kind.the-variants.{Counts, Bits, TableText, RuleLength, RuleText, Proposition, Nodes, Parts, Value, IllegalEvent, Room, LogText, NoPair, File, Number}
+use Rattle.answers.specs.declared.Kind.the-variants.{Counts, Bits, TableText, RuleLength, RuleText, Proposition, Nodes, Parts, Value, IllegalEvent, Room, LogText, NoPair, File, Rows, Number, NoKey, SheetText, NotNewer, NotHeld, ClosingEdition, RunLength, Stretches, LogLength}
 use Rattle.answers.specs.declared.Answer as answers
 use Rattle.answers.specs.declared.Answer.the-variants as Answers
 use Rattle.answers.specs.declared.Outcome.{Outcome}
@@ -64,7 +64,16 @@ some-number Room e = omega arith
 some-number LogText e = omega arith
 some-number NoPair e = omega arith
 some-number File e = omega arith
+some-number Rows e = omega arith
 some-number Number e = omega arith
+some-number NoKey e = omega arith
+some-number SheetText e = omega arith
+some-number NotNewer e = omega arith
+some-number NotHeld e = omega arith
+some-number ClosingEdition e = omega arith
+some-number RunLength e = omega arith
+some-number Stretches e = omega arith
+some-number LogLength e = omega arith
 
 -- a step that answers another number than 0 leaves every word
 pub refused-stays : (w : List ℕ) (s : Watched) → (shownAs (s .answer) .number ≡ 0 → ⊥) → boxAfter w s ≡ w

@@ -13,7 +13,7 @@ ghost use Rattle.witness.specs.Calls.{Answered};
 ghost use Rattle.opened.specs.Opened.{fairIn, labelIn, nextIn};
 ghost use Rattle.jugastilum.specs.Calls.{lookedIn, steppedIn};
 
-fn fairs_of(table: Table) -> usize
+pub fn fairs_of(table: Table) -> usize
     ensures { λ r. ⌜ Counts r (table .fair) × (take r (table .fair) ≡ fairIn table) ⌝ }
 {
     let plant = table.plant;
@@ -23,7 +23,7 @@ fn fairs_of(table: Table) -> usize
     plant.just
 }
 
-fn states_of(table: Table) -> usize
+pub fn states_of(table: Table) -> usize
     ensures labels { λ r. ⌜ Counts r (table .label) × (take r (table .label) ≡ labelIn table) ⌝ }
     ensures next { λ r. ⌜ Counts r (table .next) × (take r (table .next) ≡ nextIn table) ⌝ }
 {

@@ -1,6 +1,13 @@
 // The box for C programs: the functions that include/jugastilum.h declares. Each reads what the caller's words hold, makes the call that it stands
 // for, and stores what was accepted. A refusal stores nothing.
 mod calls;
+mod day;
+mod days;
+mod machines;
+mod radios;
+mod reports;
+mod sheets;
+mod tables;
 mod told;
 
 use answers::Answer as Shown;

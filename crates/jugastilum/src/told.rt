@@ -4,10 +4,12 @@ use answers::Outcome;
 use answers::Refusal;
 use controller::LogAnswer;
 use opened::Opened;
+use plant_writer::Wrote;
 use witness::Witnessed;
 ghost use mathlib.Core.Path.{_≡_};
 ghost use Rattle.walk.specs.declared.Lengths.{Lengths};
 ghost use Rattle.jugastilum.specs.Calls.{refusedBy, shownAs, openedAs, heardAs, runAs};
+ghost use Rattle.jugastilum.specs.Tables.{wroteAs};
 
 // Number 0: accepted. Else the refusal's, with its place. The header has the same struct.
 #[repr(C)]
@@ -102,6 +104,21 @@ pub fn run(witnessed: Witnessed) -> Answer
             place: 0,
             count: lengths.turn as u64,
             value: lengths.stem as u64,
+        },
+    }
+}
+
+// The bytes of the text are counted.
+pub fn wrote(answer: Wrote) -> Answer
+    ensures { λ r. ⌜ r ≡ wroteAs answer ⌝ }
+{
+    match answer {
+        Wrote::Refused(refusal) => refused(refusal),
+        Wrote::Text(length) => Answer {
+            number: 0,
+            place: 0,
+            count: length.bytes as u64,
+            value: 0,
         },
     }
 }

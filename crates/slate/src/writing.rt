@@ -7,7 +7,7 @@ use syntax::Op;
 use syntax::Rule;
 ghost use mathlib.Core.Path.{_≡_};
 ghost use Prim.Native.Nat.{_<_};
-ghost use Rattle.slate.specs.Box.{codeOf, plantWord, tableWord, ruleWord, monitorWord, heldWord, storedOf, changedWord, withMonitor};
+ghost use Rattle.slate.specs.Box.{codeOf, plantWord, tableWord, ruleWord, monitorWord, heldWord, storedOf, monitorWords, splicedWord, withMonitor};
 
 // The code of an operator.
 fn code_of(op: Op) -> u64
@@ -132,27 +132,39 @@ pub fn stored(held: Held) -> [u64; 384]
     words
 }
 
+// The words of a monitor, made once.
+fn monitor_words(monitor: Monitor) -> [u64; 130]
+    ensures { λ r. ⌜ r ≡ monitorWords monitor ⌝ }
+{
+    let mut words = [0u64; 130];
+    for at in 0..130 {
+        words[at] = monitor_word(monitor, at);
+    }
+    words
+}
+
 // A word of a box with another monitor.
-fn changed_word(words: [u64; 384], monitor: Monitor, at: usize) -> u64
+fn changed_word<'a>(words: &'a [u64; 384], monitor: &'a [u64; 130], at: usize) -> u64
     requires { ⌜ at < 384 ⌝ }
-    ensures { λ r. ⌜ r ≡ changedWord words monitor at ⌝ }
+    ensures { λ r. ⌜ r ≡ splicedWord (now (words .entry)) (now (monitor .entry)) at ⌝ }
 {
     if at < Held::SEEN {
         return words[at];
     }
     if at < Held::BEHIND {
-        return monitor_word(monitor, at - Held::SEEN);
+        return monitor[at - Held::SEEN];
     }
     words[at]
 }
 
-// The same box with another monitor.
+// The same box with another monitor. Both are lent word by word: handed over by value they would be copied 384 times.
 pub fn with_monitor(words: [u64; 384], monitor: Monitor) -> [u64; 384]
     ensures { λ r. ⌜ r ≡ withMonitor words monitor ⌝ }
 {
+    let parts = monitor_words(monitor);
     let mut changed = [0u64; 384];
     for at in 0..384 {
-        changed[at] = changed_word(words, monitor, at);
+        changed[at] = changed_word(&words, &parts, at);
     }
     changed
 }

@@ -188,7 +188,7 @@ fn numbered(dice: &mut Dice, events: &[Event]) -> Vec<Event> {
 }
 
 /// The same events, sometimes with numbers.
-fn as_sent(dice: &mut Dice, events: Vec<Event>) -> Vec<Event> {
+pub fn as_sent(dice: &mut Dice, events: Vec<Event>) -> Vec<Event> {
     if dice.chance(40) { numbered(dice, &events) } else { events }
 }
 
@@ -225,14 +225,15 @@ fn damage(dice: &mut Dice, text: &mut Vec<u8>, alphabet: &[u8]) {
     }
 }
 
-fn good(dice: &mut Dice, states: usize, parts: usize, length: usize) -> (Plant, String, Vec<Event>) {
+/// A plant, a rule of so many parts and a log of so many events.
+pub fn good(dice: &mut Dice, states: usize, parts: usize, length: usize) -> (Plant, String, Vec<Event>) {
     let plant = plant(dice, states);
     let rule = open_rule(dice, &plant, parts);
     let log = log(dice, &plant, length);
     (plant, rule, log)
 }
 
-fn files(plant: &Plant, rule: &str, log: &[Event]) -> Files {
+pub fn files(plant: &Plant, rule: &str, log: &[Event]) -> Files {
     Files { plant: File::Bytes(plant.text()), rule: File::Bytes(rule.as_bytes().to_vec()), log: File::Bytes(log_text(plant.props, log)) }
 }
 

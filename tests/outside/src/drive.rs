@@ -11,7 +11,7 @@ use std::sync::Mutex;
 use std::time::{Duration, Instant};
 
 use crate::cases::{case, forbidden, Case, FAMILIES};
-use crate::watch::{output, File};
+use crate::watch::{output, File, Files};
 
 /// The longest that the program may take for one case.
 const PATIENCE: Duration = Duration::from_secs(60);
@@ -74,6 +74,15 @@ fn run(program: &[String], folder: &Path, user: Option<u32>) -> Result<String, S
     Ok(wrote)
 }
 
+/// What a program writes for some files, in a folder of their own.
+pub fn wrote(program: &[String], files: Files) -> Result<String, String> {
+    let room = Room::new();
+    let folder = room.0.join("case");
+    fs::create_dir(&folder).unwrap();
+    lay_out(&Case { kind: "apart", files, given: None }, &folder);
+    run(program, &folder, None)
+}
+
 /// The first line in which two outputs differ.
 fn difference(wanted: &str, got: &str) -> String {
     let (a, b): (Vec<&str>, Vec<&str>) = (wanted.split_inclusive('\n').collect(), got.split_inclusive('\n').collect());
@@ -92,6 +101,12 @@ pub fn lamps(case: &Case, got: &str) -> Option<String> {
         _ if got != wanted => Some(difference(&wanted, got)),
         _ => None,
     }
+}
+
+/// The table written anew: the whole output is known.
+pub fn table(case: &Case, got: &str) -> Option<String> {
+    let wanted = crate::watch::table(&case.files);
+    (got != wanted).then(|| difference(&wanted, got))
 }
 
 /// How runs go on: each run is checked.

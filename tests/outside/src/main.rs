@@ -2,26 +2,40 @@
 //!
 //!   outside drive SEED CASES KEEP PROGRAM..   runs the program `watch` on seeded cases and compares whole outputs
 //!   outside drive-runs SEED CASES KEEP PROGRAM..   runs the program `runs` on them and checks each run
+//!   outside drive-table SEED CASES KEEP PROGRAM..   runs the program `table` on them and compares whole outputs
 //!   outside lassos SEED CASES                 compares our own reading with the meaning of runs
+//!   outside sensors SEED CASES DRIVEN PROGRAM..   compares the lamps of a log with those of a better sensor, and of a table with those of a smaller one
 //!   outside faults SEED CASES                 plants mistakes in our own reading and sees that the cases find each
+//!   outside calls SEED THOUSANDS              prints cases of the functions for C programs, with their answers; planted mistakes must be found by some
 //!   outside play [FAULT]                      is the program `watch` itself, in this folder, with a mistake if one is named
 //!   outside play-runs [FAULT]                 is the program `runs` in the same way
+//!   outside play-table [FAULT]                is the program `table` in the same way
+//!   outside play-day [FAULT]                  is the program `day` in the same way
 //!   outside lines FOLDER FILE                 checks the lines that `runs` wrote for a folder
 //!   outside marked FILE                       checks the lines of the paper's marked examples
 //!   outside case SEED NUMBER FOLDER           writes a case's files and its expected output into a folder
 //!   outside witness PLANT RULE STATE VALUATION STEM LOOP   checks a witness; STEM and LOOP are states parted by commas, or -
 
+mod calls;
 mod cases;
+mod closing;
+mod day;
 mod dice;
 mod drive;
 mod faults;
 mod lassos;
 mod log;
+mod machines;
 mod meaning;
 mod pairs;
 mod plant;
+mod reports;
 mod rule;
 mod runs;
+mod scraps;
+mod sensors;
+mod sheets;
+mod tables;
 mod watch;
 
 use std::path::Path;
@@ -65,6 +79,12 @@ fn lassos(words: &[String]) -> Result<String, String> {
     Ok(format!("lassos: {} plants and logs; {} pairs shown live and reached by runs, {} runs found in the sets", count, tally.pairs, tally.runs))
 }
 
+/// Pairs of a log and a better sensor's, and of a table and a smaller one, by our own reading; the first few of each by the program too.
+fn sensors(words: &[String]) -> Result<String, String> {
+    let program = words[3..].to_vec();
+    sensors::all(number(&words[0]) as u64, number(&words[1]), number(&words[2]), &|files| drive::wrote(&program, files))
+}
+
 /// The mistakes of a list that no case finds in what a program writes; those that few cases find are told. Large plants are left out: they take long, and find no more.
 fn missed(list: &[faults::Planted], seed: u64, count: usize, program: fn(&Files) -> String, is_wrong: fn(&Files, &str) -> bool) -> Vec<String> {
     let mut found = vec![Vec::new(); list.len()];
@@ -98,29 +118,54 @@ fn faults(words: &[String]) -> Result<String, String> {
     let of_runs: Vec<faults::Planted> = faults::ALL.iter().filter(|f| !faults::OF_LAMPS.contains(&f.0)).chain(faults::OF_RUNS).cloned().collect();
     let lamps = missed(faults::ALL, seed, count, watch::output, |_, _| true);
     let runs = missed(&of_runs, seed, count, runs::output, |files, wrote| runs::fault(files, wrote).is_some());
-    if lamps.is_empty() && runs.is_empty() {
-        return Ok(format!("faults: each of {} planted mistakes is found by the lamps, and each of {} by the check of runs", faults::ALL.len(), of_runs.len()));
+    let tables = missed(faults::OF_TABLES, seed, count, watch::table, |_, _| true);
+    if lamps.is_empty() && runs.is_empty() && tables.is_empty() {
+        return Ok(format!(
+            "faults: each of {} planted mistakes is found by the lamps, each of {} by the check of runs, and each of {} by the tables written",
+            faults::ALL.len(),
+            of_runs.len(),
+            faults::OF_TABLES.len()
+        ));
     }
-    Err(format!("planted mistakes that no case finds: {}; in runs: {}", lamps.join(", "), runs.join(", ")))
+    Err(format!("planted mistakes that no case finds: {}; in runs: {}; in tables: {}", lamps.join(", "), runs.join(", "), tables.join(", ")))
 }
 
-/// What stands in a folder.
-fn files_of(folder: &Path) -> Files {
-    let file = |name: &str| match std::fs::read(folder.join(name)) {
+/// Cases for tests/calls, once each planted mistake is found by one of them.
+fn calls(words: &[String]) -> Result<String, String> {
+    let (seed, thousands) = (number(&words[0]) as u64, number(&words[1]));
+    let missed = calls::missed(seed);
+    if missed.is_empty() { Ok(calls::lines(seed, thousands).trim_end().to_string()) } else { Err(format!("planted mistakes that no case finds: {}", missed.join(", "))) }
+}
+
+fn file_of(folder: &Path, name: &str) -> File {
+    match std::fs::read(folder.join(name)) {
         Ok(bytes) => File::Bytes(bytes),
         Err(_) if folder.join(name).is_dir() => File::Folder,
         Err(_) if folder.join(name).exists() => File::Failing,
         Err(_) => File::Missing,
-    };
+    }
+}
+
+/// What stands in a folder.
+fn files_of(folder: &Path) -> Files {
+    let file = |name: &str| file_of(folder, name);
     Files { plant: file("plant.txt"), rule: file("rule.txt"), log: file("log.txt") }
+}
+
+fn planted(words: &[String]) -> Result<Option<faults::Fault>, String> {
+    words.first().map(|name| faults::named(name).ok_or(String::from("no such fault"))).transpose()
+}
+
+/// The program `day`, by our own reading, on the files of this folder.
+fn play_day(words: &[String]) -> Result<String, String> {
+    let files = ["plant.txt", "log.txt", "local.txt", "shared.txt"].map(|name| file_of(Path::new("."), name));
+    print!("{}", faults::with(planted(words)?, || day::minutes(files).unwrap_or_else(|refused| refused)));
+    Ok(String::new())
 }
 
 /// A program, by our own reading, on the files of this folder.
 fn play(program: fn(&Files) -> String, words: &[String]) -> Result<String, String> {
-    let fault = match words.first() {
-        Some(name) => Some(faults::named(name).ok_or("no such fault")?),
-        None => None,
-    };
+    let fault = planted(words)?;
     print!("{}", faults::with(fault, || program(&files_of(Path::new(".")))));
     Ok(String::new())
 }
@@ -193,10 +238,15 @@ fn main() {
     let done = match words.first().map(|w| w.as_str()) {
         Some("drive") if least(4) => drive(drive::lamps, &words[1..]),
         Some("drive-runs") if least(4) => drive(drive::runs, &words[1..]),
+        Some("drive-table") if least(4) => drive(drive::table, &words[1..]),
         Some("lassos") if least(2) => lassos(&words[1..]),
+        Some("sensors") if least(4) => sensors(&words[1..]),
         Some("faults") if least(2) => faults(&words[1..]),
+        Some("calls") if least(2) => calls(&words[1..]),
         Some("play") => play(watch::output, &words[1..]),
         Some("play-runs") => play(runs::output, &words[1..]),
+        Some("play-table") => play(watch::table, &words[1..]),
+        Some("play-day") => play_day(&words[1..]),
         Some("lines") if least(2) => lines(&words[1..]),
         Some("marked") if least(1) => marked(&words[1..]),
         Some("case") if least(3) => write_case(&words[1..]),

@@ -195,6 +195,32 @@ impl Plant {
         text.into_bytes()
     }
 
+    /// The same as the program `table` writes it, with a mistake where one is planted.
+    pub fn written(&self) -> String {
+        let text = String::from_utf8(self.text()).unwrap();
+        let line = |line: &str| {
+            let (key, value) = line.split_once('=').unwrap();
+            let value = match value.len() {
+                1 if faults::is(Fault::ZeroBeforeCount) => format!("0{}", value),
+                16 if faults::is(Fault::ShortSets) => value.trim_start_matches('0').to_string(),
+                4 if faults::is(Fault::LabelsOfTwo) => value[2..].to_string(),
+                2 if faults::is(Fault::LabelsOfFour) && key.starts_with("label") => format!("00{}", value),
+                n if n > 2 && faults::is(Fault::CapitalsWritten) => value.to_uppercase(),
+                _ => value.to_string(),
+            };
+            format!("{}={}\n", key, value)
+        };
+        let mut lines: Vec<String> = text.lines().map(line).collect();
+        let first = lines.len() - 2 * self.states;
+        if faults::is(Fault::NextBeforeLabel) {
+            lines[first..].chunks_mut(2).for_each(|state| state.reverse());
+        }
+        if faults::is(Fault::LabelsTogether) {
+            lines[first..].sort_by_key(|line| line.starts_with('n'));
+        }
+        lines.concat()
+    }
+
     pub fn starts(&self, s: usize) -> bool {
         self.start >> s & 1 == 1
     }

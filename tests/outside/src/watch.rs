@@ -25,7 +25,7 @@ pub enum File {
 
 impl File {
     /// The bytes, if they can be read and are not too many.
-    fn within(&self, limit: usize) -> Result<Vec<u8>, Refusal> {
+    pub fn within(&self, limit: usize) -> Result<Vec<u8>, Refusal> {
         match self {
             File::Bytes(bytes) | File::Linked(bytes) if bytes.len() <= limit => Ok(bytes.clone()),
             File::Folder if faults::is(Fault::FolderIsEmpty) => Ok(vec![]),
@@ -180,4 +180,12 @@ pub fn output(files: &Files) -> String {
         out += &format!("refused={} place={}\n", refusal.number, refusal.place);
     }
     out
+}
+
+/// The whole output of the program `table`: plant.txt written anew, or its refusal.
+pub fn table(files: &Files) -> String {
+    match files.read_plant() {
+        Ok(plant) => plant.written(),
+        Err(refusal) => format!("refused={} place={}\n", refusal.number, refusal.place),
+    }
 }

@@ -1,17 +1,23 @@
 -- `writing::changed_word`: each return computes by the tests that led to it.
 use borrow.Author.Needs.{needs}
 use borrow.Author.Tests.{lt-ltb, le-ltb}
-use Rattle.slate.specs.Box.{changedWord}
+use Rattle.slate.specs.Box.{splicedWord}
 use Rattle.slate.proofs.writing.changed_word.Statement.{statement}
 use Rattle.slate.proofs.writing.changed_word.Tie as tie
 
+returns : tie.Need-returns
+unfolding splicedWord
+returns c = simp (lt-ltb _ _ (c .before .if1 .taken))
+
+returns-2 : tie.Need-returns-2
+unfolding splicedWord
+returns-2 c = simp (le-ltb _ _ (c .before .before .if1 .left), lt-ltb _ _ (c .before .if2 .taken))
+
+returns-3 : tie.Need-returns-3
+unfolding splicedWord
+returns-3 c = simp (le-ltb _ _ (c .before .before .if1 .left), le-ltb _ _ (c .before .if2 .left))
+
 pub changed-word-spec : {M : Type 1} → statement M
-unfolding changedWord
 changed-word-spec =
     tie.close (tie.spec
-    (λ c. search needs) (λ c. search needs)
-    (λ c. simp (lt-ltb _ _ (c .if1 .taken)))
-    (λ c κs. search needs)
-    (λ c. simp (le-ltb _ _ (c .before .before .if1 .left), lt-ltb _ _ (c .before .if2 .taken)) (c .monitor-word .ensures))
-    (λ c. search needs) (λ c. search needs)
-    (λ c. simp (le-ltb _ _ (c .before .if1 .left), le-ltb _ _ (c .if2 .left))))
+    (λ c. search needs) (λ c. search needs) returns (λ c. search needs) (λ c. search needs) returns-2 (λ c. search needs) (λ c. search needs) returns-3)

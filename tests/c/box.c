@@ -1,33 +1,6 @@
-/* Calls each function of jugastilum.h with good input and with bad, and says which claim of the header fails.
-   usage: test FOLDER..   each with plant.txt, rule.txt and log.txt that are accepted */
-#include "jugastilum.h"
-
-#include <stdio.h>
-#include <stdlib.h>
-#include <string.h>
-
-static int failures, claims;
-static const char *at = "";
-
-static void claim(int ok, const char *what)
-{
-    claims++;
-    if (ok)
-        return;
-    failures++;
-    if (failures <= 20)
-        printf("c: fails on %s: %s\n", at, what);
-}
-
-static int is(jug_answer a, uint64_t number, uint64_t place, uint64_t count, uint64_t value)
-{
-    return a.number == number && a.place == place && a.count == count && a.value == value;
-}
-
-static int same(jug_answer a, jug_answer b)
-{
-    return is(a, b.number, b.place, b.count, b.value);
-}
+/* Calls each function that takes a box, and the one for a whole log, with good input and with bad, and says which claim of the header fails.
+   usage: box FOLDER..   each with plant.txt, rule.txt and log.txt that are accepted */
+#include "claims.h"
 
 /* A fixed seed: each run tries the same boxes. */
 static uint64_t seed = 20261115;
@@ -38,11 +11,6 @@ static uint64_t draw(void)
     seed ^= seed << 17;
     return seed;
 }
-
-#define TEXT(s) (const uint8_t *)(s), strlen(s)
-
-static const char W[] = "props=2\nstates=3\nstart=0000000000000001\njust=0\n"
-                        "label0=00\nnext0=0000000000000003\nlabel1=01\nnext1=0000000000000006\nlabel2=02\nnext2=0000000000000005\n";
 
 /* ---- one plant in a few lines */
 
@@ -229,10 +197,5 @@ int main(int argc, char **argv)
     any_box();
     for (int i = 1; i < argc; i++)
         worked_plant(argv[i]);
-    if (failures) {
-        printf("c: %d of %d claims fail\n", failures, claims);
-        return 1;
-    }
-    printf("c: %d claims hold, on %d worked plants\n", claims, argc - 1);
-    return 0;
+    return told("box and whole logs");
 }

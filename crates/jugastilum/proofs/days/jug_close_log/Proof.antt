@@ -1,0 +1,12 @@
+-- `days::jug_close_log`: by what the two calls ensure.
+use mathlib.Core.Path.{ap, _∙_}
+use borrow.Author.Needs.{needs}
+use Rattle.jugastilum.specs.Days.{closedAs}
+use Rattle.jugastilum.proofs.days.jug_close_log.Statement.{statement}
+use Rattle.jugastilum.proofs.days.jug_close_log.Tie as tie
+
+returns : tie.Need-returns
+returns c = c .closed .ensures ∙ ap closedAs (c .before .close-log .ensures)
+
+pub jug-close-log-spec : {M : Type 1} → statement M
+jug-close-log-spec = tie.close (tie.spec (λ c κs. search needs) (λ c κs. search needs) returns)

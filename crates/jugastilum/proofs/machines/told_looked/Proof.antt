@@ -1,0 +1,12 @@
+-- `machines::told_looked`: each arm computes.
+use mathlib.Core.Path.{refl}
+use borrow.Author.Needs.{needs}
+use Rattle.jugastilum.proofs.machines.told_looked.Statement.{statement}
+use Rattle.jugastilum.proofs.machines.told_looked.Tie as tie
+
+pub told-looked-spec : {M : Type 1} → statement M
+told-looked-spec =
+    tie.close (tie.spec
+    (λ c. search needs) (λ c κs. search needs) (λ c. search needs) (λ c. search needs) (λ c. search needs)
+    (λ c. rw (c .before .before .looked .given .1) (c .refused .ensures))
+    (λ c. rw (c .before .before .before .looked2 .given .1) refl))
