@@ -1,0 +1,65 @@
+"""A folder in names: the texts that its words give, and whether the texts that are there are those."""
+import os
+
+from desk import rules, texts, words
+from desk.trouble import Bad, Trouble, counted, told
+
+
+def read_text(folder, name, reading):
+    """What a text in names says; trouble with a caret where it can't be read."""
+    path = os.path.join(folder, name)
+    text = texts.decoded(texts.contents(path), path)
+    try:
+        return reading(text)
+    except Bad as bad:
+        raise told(path, text, bad) from None
+
+
+def files_of(folder):
+    """The files that the words of a folder give, the plant that they say, and the events; None where there is no seen.txt."""
+    plant = read_text(folder, 'words.txt', words.read_words)
+    files = {'plant.txt': texts.write_table(plant.table), 'rule.txt': rules.write_rule(plant.tree) + '\n', 'names.txt': plant.names.lines()}
+    events = None
+    if os.path.exists(os.path.join(folder, 'seen.txt')):
+        events = read_text(folder, 'seen.txt', lambda text: words.read_seen(text, plant.names))
+        files['log.txt'] = texts.write_log(events, plant.table.props)
+        if len(files['log.txt']) > texts.SIZES['log.txt']:
+            raise Trouble('%s has %s, and log.txt would have more than the 65,520 bytes that the program takes' % (
+                os.path.join(folder, 'seen.txt'), counted(len(events), 'event')))
+    return files, plant, events
+
+
+def decoded(folder):
+    """The plant that the texts of a folder say."""
+    table = texts.table_of(folder)
+    text = texts.rule_text(folder)
+    try:
+        tree = rules.read_rule(text)
+    except Bad as bad:
+        raise told(os.path.join(folder, 'rule.txt'), text, bad) from None
+    for k in sorted(rules.used(tree)):
+        if k >= table.props:
+            raise Trouble('%s names p%d, and the plant has %s' % (os.path.join(folder, 'rule.txt'), k, counted(table.props, 'signal')))
+    return words.Plant(table, tree, texts.names_of(folder, table))
+
+
+def other_files(folder):
+    """The files that are not what the words give, byte by byte."""
+    return [name for name, text in files_of(folder)[0].items() if held(folder, name) != text.encode('utf-8')]
+
+
+def held(folder, name):
+    path = os.path.join(folder, name)
+    return texts.contents(path) if os.path.exists(path) else b'(none)'
+
+
+def stale(folder):
+    """A word of warning where a folder has words that say something else than its texts, capital digits aside; the programs read the texts alone."""
+    if not os.path.exists(os.path.join(folder, 'words.txt')):
+        return ''
+    try:
+        files = files_of(folder)[0]
+        other = [name for name in other_files(folder) if name == 'names.txt' or held(folder, name).lower() != files[name].lower().encode('utf-8')]
+    except Trouble:
+        return 'Mind: words.txt or seen.txt can\'t be read as it stands, and what follows is of the texts that are there. What is wrong: tools/plant %s' % folder
+    return 'Mind: the words say something else than %s, and what follows is of the texts. To make them anew: tools/plant %s' % (', '.join(other), folder) if other else ''
