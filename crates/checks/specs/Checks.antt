@@ -12,7 +12,7 @@ use Rattle.answers.specs.Chain.{andThen, unless}
 use Rattle.plant.specs.declared.Plant.{Plant}
 use Rattle.plant.specs.Table.{tableOutcome}
 use Rattle.syntax.specs.declared.Rule.{Rule}
-use Rattle.rule.specs.Valid.{validOf}
+use Rattle.rule_value.specs.Valid.{validOf}
 
 -- the table (1, 2), and then the rule's value (9)
 unfoldable pub inputOutcome : Plant → List ℕ → List ℕ → List ℕ → Rule → Outcome

@@ -15,8 +15,8 @@ use Rattle.plant.specs.Check.{accepted-exactly}
 use Rattle.syntax.specs.declared.Rule.{Rule}
 use Rattle.syntax.specs.Print.{Below}
 use Rattle.syntax.specs.Value.{ruleOf, topOf, formulaOf}
-use Rattle.rule.specs.Valid.{validOf, RuleValue}
-use Rattle.rule.specs.Values.{valid-exactly, decoded}
+use Rattle.rule_value.specs.Valid.{validOf, RuleValue}
+use Rattle.rule_value.specs.Values.{valid-exactly, decoded}
 use Rattle.checks.specs.Checks.{inputOutcome}
 
 -- the rule of a value of a rule

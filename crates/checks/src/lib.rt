@@ -15,7 +15,7 @@ pub fn check_input(plant: Plant, fair: &[u64], label: &[u16], next: &[u64], rule
     match checked {
         Outcome::Refused(refusal) => Outcome::Refused(refusal),
         Outcome::Accepted => {
-            if rule::is_valid(rule, plant.props) {
+            if rule_value::is_valid(rule, plant.props) {
                 return Outcome::Accepted;
             }
             Outcome::Refused(Refusal::at(Kind::Value, 0))

@@ -34,12 +34,12 @@ use Rattle.syntax.specs.Scan.{scan}
 use Rattle.syntax.specs.Value.{ruleOf, emptyRule, held, count}
 use Rattle.syntax.specs.Grammar.{longestRule}
 use Rattle.reader.specs.Draft as reader
-use Rattle.rule.specs.declared.RuleRead.{RuleRead}
-use Rattle.rule.specs.declared.Found.{Found}
-use Rattle.rule.specs.declared.Found.the-variants.{At, Nowhere}
-use Rattle.rule.specs.Reading.{noRule, accepted, unknownAt, ofFound, ofScan, ofTable, ruleRead}
-use Rattle.rule.specs.Valid.{RuleValue}
-use Rattle.rule.specs.Paper.{Beside}
+use Rattle.rule_text.specs.declared.RuleRead.{RuleRead}
+use Rattle.rule_text.specs.declared.Found.{Found}
+use Rattle.rule_text.specs.declared.Found.the-variants.{At, Nowhere}
+use Rattle.rule_text.specs.Reading.{noRule, accepted, unknownAt, ofFound, ofScan, ofTable, ruleRead}
+use Rattle.rule_value.specs.Valid.{RuleValue}
+use Rattle.rule_text.specs.Paper.{Beside}
 use Rattle.rule.specs.Promises as rules
 use Rattle.log.specs.declared.Event.{Event}
 use Rattle.log.specs.Line.{lineBytes}

@@ -26,7 +26,7 @@ use Rattle.plant.specs.Read.{countsIn}
 use Rattle.plant.specs.Written.{WellFormed, tableSlots, tableText}
 use Rattle.syntax.specs.Grammar.{longestRule, SaidBy}
 use Rattle.syntax.specs.Print.{Below}
-use Rattle.rule.specs.Paper.{Because}
+use Rattle.rule_text.specs.Paper.{Because}
 use Rattle.log.specs.declared.Event.{Event}
 use Rattle.log.specs.Legal.{seenOf}
 use Rattle.log.specs.Line.{lineBytes}

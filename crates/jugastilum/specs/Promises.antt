@@ -25,7 +25,7 @@ use Rattle.plant.specs.Read.{tableRead}
 use Rattle.plant.specs.Table.{plantOf, tableOutcome}
 use Rattle.plant.specs.Check.{accepted-exactly}
 use Rattle.syntax.specs.declared.Rule.{Rule}
-use Rattle.rule.specs.Reading.{ruleRead}
+use Rattle.rule_text.specs.Reading.{ruleRead}
 use Rattle.log.specs.declared.Event.{Event}
 use Rattle.checks.specs.Checks.{inputOutcome}
 use Rattle.syntax.specs.Value.{formulaOf}

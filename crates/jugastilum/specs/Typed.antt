@@ -27,9 +27,9 @@ use Rattle.syntax.specs.Value.{blank, nodesOf, ruleOf}
 use Rattle.syntax.specs.Postfix.{postfix}
 use Rattle.syntax.specs.Print.{Below}
 use Rattle.syntax.proofs.Values.{full-value}
-use Rattle.rule.specs.Reading.{ruleRead}
-use Rattle.rule.specs.Valid.{known}
-use Rattle.rule.specs.Values.{below-nodes}
+use Rattle.rule_text.specs.Reading.{ruleRead}
+use Rattle.rule_value.specs.Valid.{known}
+use Rattle.rule_value.specs.Values.{below-nodes}
 use Rattle.rule.specs.Promises as rules
 use Rattle.live.specs.Prepare.{preparedOf}
 use Rattle.live.specs.Promises.{prepare-accepted}

@@ -13,7 +13,7 @@ use plant::Plant;
 use plant::Table;
 use plant::TableRead;
 use report::Line;
-use rule::RuleRead;
+use rule_text::RuleRead;
 use syntax::Rule;
 use transcript::texts;
 ghost use Rattle.io.specs.Counts.{Counts};

@@ -10,8 +10,8 @@ use Rattle.plant.specs.declared.Table.{Table}
 use Rattle.plant.specs.Read.{tableRead}
 use Rattle.syntax.specs.declared.Rule.{Rule}
 use Rattle.syntax.proofs.Values.{full-value}
-use Rattle.rule.specs.declared.RuleRead.{RuleRead}
-use Rattle.rule.specs.Reading.{ruleRead}
+use Rattle.rule_text.specs.declared.RuleRead.{RuleRead}
+use Rattle.rule_text.specs.Reading.{ruleRead}
 use Rattle.rule.specs.Promises as rules
 use Rattle.live.specs.Prepare.{preparedOf}
 use Rattle.live.specs.Promises.{prepare-accepted}

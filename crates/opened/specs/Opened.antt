@@ -10,7 +10,7 @@ use Rattle.plant.specs.declared.Table.{Table}
 use Rattle.plant.specs.Read.{tableRead, noTable}
 use Rattle.syntax.specs.declared.Rule.{Rule}
 use Rattle.syntax.specs.Value.{emptyRule}
-use Rattle.rule.specs.Reading.{ruleRead}
+use Rattle.rule_text.specs.Reading.{ruleRead}
 use Rattle.live.specs.Prepare.{preparedOf}
 use Rattle.advance.specs.declared.Monitor.{Monitor}
 use Rattle.monitor.specs.Calls.{noMonitor, openCall}

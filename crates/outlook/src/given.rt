@@ -5,7 +5,7 @@ use files::File;
 use plant::Plant;
 use plant::Table;
 use plant::TableRead;
-use rule::RuleRead;
+use rule_text::RuleRead;
 use syntax::Rule;
 use transcript::texts;
 ghost use Rattle.io.specs.Counts.{Counts};

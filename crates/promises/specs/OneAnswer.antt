@@ -32,7 +32,7 @@ use Rattle.plant.proofs.check_table.Reads as check-table
 use Rattle.plant_writer.proofs.write_table.Reads as write-table
 use Rattle.rule.proofs.read_rule.Reads as read-rule
 use Rattle.rule.proofs.print_rule.Reads as print-rule
-use Rattle.rule.proofs.is_valid.Reads as is-valid
+use Rattle.rule_value.proofs.is_valid.Reads as is-valid
 use Rattle.log.proofs.read_log.Reads as read-log
 use Rattle.log.proofs.event_at.Reads as event-at
 use Rattle.log.proofs.line_bytes.Reads as line-bytes

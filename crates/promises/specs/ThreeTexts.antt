@@ -22,8 +22,8 @@ use Rattle.plant.specs.Table.{plantOf}
 use Rattle.plant.specs.Read.{tableRead}
 use Rattle.plant.specs.Promises.{lent-passes}
 use Rattle.syntax.specs.declared.Rule.{Rule}
-use Rattle.rule.specs.declared.RuleRead.{RuleRead}
-use Rattle.rule.specs.Reading.{ruleRead}
+use Rattle.rule_text.specs.declared.RuleRead.{RuleRead}
+use Rattle.rule_text.specs.Reading.{ruleRead}
 use Rattle.rule.specs.Promises.{accepted-exactly}
 use Rattle.log.specs.declared.Event.{Event}
 use Rattle.log.specs.declared.LogRead.{LogRead}

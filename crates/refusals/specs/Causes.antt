@@ -23,7 +23,7 @@ use Rattle.syntax.specs.declared.Rule.{Rule}
 use Rattle.syntax.specs.Grammar.{names}
 use Rattle.syntax.specs.Print.{print}
 use Rattle.syntax.specs.Value.{formulaOf}
-use Rattle.rule.specs.Valid.{RuleValue}
+use Rattle.rule_value.specs.Valid.{RuleValue}
 use Rattle.log.specs.declared.Event.{Event}
 use Rattle.log.specs.Legal.{seenOf}
 use Rattle.advance.specs.declared.Monitor.{Monitor}

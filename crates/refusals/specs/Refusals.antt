@@ -43,10 +43,10 @@ use Rattle.syntax.specs.Print.{print}
 use Rattle.syntax.specs.Value.{formulaOf}
 use Rattle.rule.specs.declared.Length.{Length}
 use Rattle.rule.specs.declared.Printed.the-variants.{Text}
-use Rattle.rule.specs.Valid.{validOf, RuleValue}
+use Rattle.rule_value.specs.Valid.{validOf, RuleValue}
 use Rattle.rule.specs.Printing.{topText, textOf, noPrint, printAnswer}
 use Rattle.rule.specs.OnPaper.{printed}
-use Rattle.rule.specs.Values.{valid-exactly, decoded}
+use Rattle.rule_value.specs.Values.{valid-exactly, decoded}
 use Rattle.log.specs.declared.Event.{Event}
 use Rattle.log.specs.Legal.{seenOf}
 use Rattle.checks.specs.Checks.{inputOutcome}

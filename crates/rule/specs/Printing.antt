@@ -16,7 +16,7 @@ use Rattle.syntax.specs.Print.{print}
 use Rattle.syntax.specs.Value.{held}
 use Rattle.rule.specs.declared.Printed.{Printed}
 use Rattle.rule.specs.declared.Printed.the-variants.{Text, Refused}
-use Rattle.rule.specs.Valid.{validOf}
+use Rattle.rule_value.specs.Valid.{validOf}
 
 -- the text of the rule on top of a stack
 abbrev pub topText : List Formula → List ℕ

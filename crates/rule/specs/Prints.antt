@@ -17,10 +17,10 @@ use Rattle.syntax.specs.Value.{held}
 use Rattle.printer.specs.Tell.{shares, Shows, Printable, Prints}
 use Rattle.printer.proofs.Printing.{room-is}
 use Rattle.rule.specs.declared.Printed.the-variants.{Text, Refused}
-use Rattle.rule.specs.Valid.{validOf, RuleValue}
+use Rattle.rule_value.specs.Valid.{validOf, RuleValue}
 use Rattle.words.specs.Over.{over}
 use Rattle.rule.specs.Printing.{topText, textOf, noPrint, printAnswer, printBuffer}
-use Rattle.rule.specs.Values.{rule-valid, valid-rule, decoded}
+use Rattle.rule_value.specs.Values.{rule-valid, valid-rule, decoded}
 
 pub text-is : {r : Rule} {q : ℕ} (v : RuleValue r q) → textOf r ≡ print (v .formula)
 text-is v = ap topText (decoded v)

@@ -24,15 +24,15 @@ use Rattle.syntax.proofs.Parse.{one-rule}
 use Rattle.syntax.proofs.Printed.{printed, short, longest, below-more}
 use Rattle.rule.specs.declared.Printed.{Printed}
 use Rattle.rule.specs.declared.Printed.the-variants.{Text, Refused as NoText}
-use Rattle.rule.specs.Reading.{noRule, accepted, textRead, ruleRead}
-use Rattle.rule.specs.Valid.{validOf, RuleValue}
+use Rattle.rule_text.specs.Reading.{noRule, accepted, textRead, ruleRead}
+use Rattle.rule_value.specs.Valid.{validOf, RuleValue}
 use Rattle.words.specs.Over.{over}
 use Rattle.rule.specs.Printing.{textOf, noPrint, printAnswer, printBuffer}
-use Rattle.rule.specs.Paper.{Beside, Takes, Because}
-use Rattle.rule.specs.Judged.{reads-rule, Accepts, text-accepted}
-use Rattle.rule.specs.Values.{valid-exactly}
+use Rattle.rule_text.specs.Paper.{Beside, Takes, Because}
+use Rattle.rule_text.specs.Judged.{reads-rule, Accepts, text-accepted}
+use Rattle.rule_value.specs.Values.{valid-exactly}
 use Rattle.rule.specs.Prints.{text-is, Printing, no-rule, no-room, its-text, printing, answer-none, answer-room, answer-text}
-use Rattle.rule.specs.Answering as answering
+use Rattle.rule_text.specs.Answering as answering
 
 -- what stands in an answer of print_rule
 abbrev isText : Printed → Bool

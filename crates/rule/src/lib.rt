@@ -1,41 +1,14 @@
-// The calls on rules: a text is read, a value is checked, a value is printed.
+// The calls on rules: a text is read, for the table beside it, and a value is printed.
 use answers::Kind;
 use answers::Outcome;
 use answers::Refusal;
 use plant::Plant;
+use rule_text::RuleRead;
+use rule_value::is_valid;
 use syntax::Rule;
 ghost use mathlib.Core.Path.{_≡_};
-ghost use Rattle.rule.specs.Reading.{noRule, ruleRead};
-ghost use Rattle.rule.specs.Valid.{validOf};
+ghost use Rattle.rule_text.specs.Reading.{ruleRead};
 ghost use Rattle.rule.specs.Printing.{printAnswer, printBuffer};
-
-mod rule_text;
-mod value;
-
-// What reading a text answers. The rule beside a refusal is the value with no node.
-pub struct RuleRead {
-    pub outcome: Outcome,
-    pub rule: Rule,
-}
-
-impl RuleRead {
-    pub fn refused(kind: Kind, place: usize) -> Self
-        ensures { λ r. ⌜ r ≡ noRule kind place ⌝ }
-    {
-        let rule = Rule::empty();
-        let refusal = Refusal::at(kind, place);
-        RuleRead {
-            outcome: Outcome::Refused(refusal),
-            rule,
-        }
-    }
-}
-
-// Where a text has a proposition that the table has not.
-pub enum Found {
-    At(usize),
-    Nowhere,
-}
 
 // How many bytes were printed.
 pub struct Length {
@@ -72,18 +45,6 @@ pub fn read_rule(plant: Plant, fair: &[u64], label: &[u16], next: &[u64], text: 
         }
         Outcome::Accepted => rule_text::read_text(text, plant.props),
     }
-}
-
-// Whether the value is a rule's within the limits, with propositions below `props`. For 1 to 16 of them: whether some text gives it, which is check 9.
-pub fn is_valid(rule: Rule, props: usize) -> bool
-    ensures { λ r. ⌜ r ≡ validOf rule props ⌝ }
-{
-    let short = rule.len <= Rule::MAX;
-    let one = value::is_whole(rule);
-    let known = value::all_known(rule, props);
-    let few = syntax::parts_of(rule) <= Rule::PARTS;
-    let rest = value::rest_blank(rule);
-    short & one & known & few & rest
 }
 
 // Prints a rule at the buffer's start: refusals 9 and 11. Other bytes stay, and all of them with a refusal.

@@ -80,7 +80,7 @@ fn text_case(line: &[u8]) {
 
 fn value_case(line: &[u8]) {
     let rule = value::value(number(field(line, b'#', 3)), field(line, b'#', 4));
-    if rule::is_valid(rule, number(field(line, b'#', 2))) {
+    if rule_value::is_valid(rule, number(field(line, b'#', 2))) {
         put(b"a rule, ");
     } else {
         put(b"no rule, ");

@@ -14,8 +14,8 @@ use Rattle.plant.specs.declared.Table.{Table}
 use Rattle.plant.specs.declared.TableRead.{TableRead}
 use Rattle.plant.specs.Read.{tableRead, refusedRead}
 use Rattle.syntax.specs.declared.Rule.{Rule}
-use Rattle.rule.specs.declared.RuleRead.{RuleRead}
-use Rattle.rule.specs.Reading.{noRule, ruleRead}
+use Rattle.rule_text.specs.declared.RuleRead.{RuleRead}
+use Rattle.rule_text.specs.Reading.{noRule, ruleRead}
 use Rattle.text.specs.Number.{widthOf}
 use Rattle.text.specs.Lines.{lineStart}
 use Rattle.log.specs.Read.{bytesIn, logRead}

@@ -5,7 +5,7 @@ use answers::Refusal;
 use plant::Plant;
 use plant::Table;
 use plant::TableRead;
-use rule::RuleRead;
+use rule_text::RuleRead;
 ghost use mathlib.Core.Path.{_≡_};
 ghost use Rattle.io.specs.Counts.{Counts};
 ghost use Rattle.transcript.specs.End.{endOf};

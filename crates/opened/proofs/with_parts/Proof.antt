@@ -1,6 +1,6 @@
 -- `with_parts`: the rule, and then what is made of it. Assumes nothing.
 use borrow.Author.Needs.{needs}
-use Rattle.rule.specs.declared.RuleRead.{RuleRead}
+use Rattle.rule_text.specs.declared.RuleRead.{RuleRead}
 use Rattle.opened.specs.declared.Opened.{Opened}
 use Rattle.opened.specs.Opened.{ruleOpened, partsOpened}
 use Rattle.opened.proofs.Cases.{refused-there, opened-there}

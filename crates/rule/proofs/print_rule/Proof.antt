@@ -5,9 +5,9 @@ use native.Mathlib.Omega.{arith}
 use lib.ListN.{length}
 use Rattle.syntax.specs.Grammar.{names}
 use Rattle.syntax.proofs.Held.{full}
-use Rattle.rule.specs.Valid.{RuleValue}
+use Rattle.rule_value.specs.Valid.{RuleValue}
 use Rattle.rule.specs.Printing.{textOf}
-use Rattle.rule.specs.Values.{valid-rule}
+use Rattle.rule_value.specs.Values.{valid-rule}
 use Rattle.rule.specs.Prints.{room, printable, long, laid, not-valid, too-short, fitting}
 use borrow.Author.Needs.{needs}
 use Rattle.rule.proofs.print_rule.Statement.{statement}

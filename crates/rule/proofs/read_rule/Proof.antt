@@ -1,7 +1,7 @@
 -- `rule::read_rule` meets its contract: what the table's check answers decides. Assumes nothing.
 use mathlib.Core.Path.{_∙_}
 use borrow.Author.Needs.{needs}
-use Rattle.rule.specs.Checks.{by-table}
+use Rattle.rule_text.specs.Checks.{by-table}
 use Rattle.rule.proofs.read_rule.Statement.{statement}
 use Rattle.rule.proofs.read_rule.Tie as tie
 

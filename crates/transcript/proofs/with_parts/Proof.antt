@@ -1,6 +1,6 @@
 -- `with_parts`: the rule, and then the log. Assumes nothing.
 use borrow.Author.Needs.{needs}
-use Rattle.rule.specs.declared.RuleRead.{RuleRead}
+use Rattle.rule_text.specs.declared.RuleRead.{RuleRead}
 use Rattle.transcript.specs.Said.{logText, ruleText, fileOf}
 use Rattle.transcript.proofs.Cases.{refused-said, accepted-said}
 use Rattle.transcript.proofs.with_parts.Statement.{statement}

@@ -1,0 +1,57 @@
+-- `rule::value::all_known` meets its contract. The loop's invariant: the answer for the nodes from here on is the answer. Assumes nothing.
+use Prim.Native.Nat.{_+_, _-_, _≤_}
+use mathlib.Core.Path.{_≡_, sym, ap, _∙_}
+use mathlib.Core.List.{_∷_}
+use native.Mathlib.Omega.{arith}
+use borrow.Author.Needs.{needs}
+use Rattle.syntax.specs.Value.{opAt, held}
+use Rattle.syntax.proofs.Held.{full, heldFrom, stored-few, held-start, held-turn, held-end}
+use Rattle.meaning.specs.Step.{every}
+use Rattle.rule_value.specs.Valid.{known}
+use Rattle.rule_value.proofs.Turns.{every-on, every-stops, every-ends}
+use Rattle.rule_value.proofs.nodes.all_known.Statement.{statement}
+use Rattle.rule_value.proofs.nodes.all_known.Tie as tie
+
+abbrev Inv-loop : tie.InvT-loop
+Inv-loop props rule len at₀ at = (at ≤ len) × (every (known props) (heldFrom rule at) ≡ every (known props) (held rule))
+
+abbrev μ-loop : tie.MeasureT-loop
+μ-loop props rule len at₀ at = len - at
+
+loop-holds : tie.Need-loop-holds Inv-loop μ-loop
+loop-holds c =
+    let r = c .before .args .t1 in
+    (omega arith, ap (every (known _)) (held-start r (full (r .nodes) (c .before .good .0 .1 .1 .1 .0))))
+
+-- the node of a turn stands in the array
+inside : (c : tie.In-loop Inv-loop μ-loop) → c .before .loop .at ≤ 31
+inside c = omega (arith, c .loop-test .taken, c .before .before .stored .ensures, stored-few (c .before .before .before .args .t1))
+
+turn : (c : tie.In-loop Inv-loop μ-loop) →
+    let r = c .before .before .before .args .t1 in
+    heldFrom r (c .before .loop .at) ≡ opAt (r .nodes) (c .before .loop .at) ∷ heldFrom r (c .before .loop .at + 1)
+turn c =
+    let start = c .before .before .before in
+    let r = start .args .t1 in
+    held-turn r (full (r .nodes) (start .good .0 .1 .1 .1 .0)) (c .before .loop .at) (omega (arith, c .loop-test .taken, c .before .before .stored .ensures))
+
+loop-again : tie.Need-loop-again Inv-loop μ-loop
+loop-again c =
+    let l = c .before .before .before in
+    (omega (arith, l .loop-test .taken), every-on (known _) (l .before .loop .inv .1) (turn l) (sym (c .before .is-known .ensures) ∙ c .if1 .taken))
+
+returns : tie.Need-returns Inv-loop μ-loop
+returns c = let l = c .before .before .before in every-stops (known _) (l .before .loop .inv .1) (turn l) (sym (c .before .is-known .ensures) ∙ c .if1 .left)
+
+returns-2 : tie.Need-returns-2 Inv-loop μ-loop
+returns-2 c =
+    let start = c .before .before .before in
+    let r = start .args .t1 in
+    every-ends (known _) (c .before .loop .inv .1)
+    (held-end r (full (r .nodes) (start .good .0 .1 .1 .1 .0)) (c .before .loop .at) (omega (arith, c .loop-test .left, c .before .before .stored .ensures)))
+
+pub all-known-spec : {M : Type 1} → statement M
+all-known-spec =
+    tie.close (tie.spec
+    Inv-loop μ-loop (λ c κs. search needs) loop-holds (λ c. omega (arith, inside c)) (λ c. omega (arith, inside c)) (λ c κs. search needs)
+    (λ c. omega (arith, inside (c .before .before .before))) (λ c. search needs) loop-again returns returns-2)
