@@ -1,45 +1,17 @@
 // One event more, with all that a rule says lent, and nothing checked: what the monitor does behind its checks, and a loop over many events
 // in each turn.
-pub mod numbers;
-pub mod opening;
-pub mod sides;
-
 use answers::Lamp;
 use answers::Verdict;
 use log::Event;
-use pairs::Pairs;
+use sides::Monitor;
 use sides::kept;
 use sides::moved;
 use sides::restarted;
 ghost use mathlib.Core.Path.{_≡_};
 ghost use Prim.Native.Nat.{_≤_};
 ghost use lib.ListN.{length};
-ghost use Rattle.advance.specs.Held.{modelOf, lampIn};
-ghost use Rattle.advance.specs.Sides.{advancedBy, caughtUpBy, cameBy};
-
-// Whether an event came, the pairs of the runs that keep the rule and of those that break it, and the number that the next event is expected
-// to have.
-pub struct Monitor {
-    pub seen: bool,
-    pub keeps: Pairs,
-    pub breaks: Pairs,
-    pub expected: u64,
-}
-
-impl Monitor {
-    // Numbers have 32 bits. Expected behind the last of them, this says that they are used up.
-    pub const USED_UP: u64 = 4294967296;
-
-    // How many numbers may be missing before an event.
-    pub const MISSING: u64 = 16;
-
-    pub const NONE: Monitor = Monitor {
-        seen: false,
-        keeps: Pairs::EMPTY,
-        breaks: Pairs::EMPTY,
-        expected: 0,
-    };
-}
+ghost use Rattle.sides.specs.Held.{modelOf, lampIn};
+ghost use Rattle.sides.specs.Sides.{advancedBy, caughtUpBy, cameBy};
 
 // At the first event nothing moves, and its restart flag is not looked at.
 pub fn advance<'a>(

@@ -16,8 +16,8 @@ use Rattle.text.specs.Lines.{lineStart}
 use Rattle.syntax.specs.declared.Rule.{Rule}
 use Rattle.log.specs.declared.Event.{Event}
 use Rattle.log.specs.Read.{bytesIn, logRead, eventAt, wholeLines}
-use Rattle.advance.specs.declared.Monitor.{Monitor}
-use Rattle.advance.specs.Held.{modelOf, lampIn}
+use Rattle.sides.specs.declared.Monitor.{Monitor}
+use Rattle.sides.specs.Held.{modelOf, lampIn}
 use Rattle.course.specs.declared.Went.{Went}
 use Rattle.opened.specs.declared.Opened.{Opened}
 use Rattle.opened.specs.Opened.{openedOf}

@@ -1,7 +1,6 @@
 // A day's end: the last verdict of a whole log, and by edition 2, where that is inconclusive, what finite-trace logic presumes of the rule.
 pub mod stretch;
 
-use advance::Monitor;
 use advance::lamp;
 use answers::Kind;
 use answers::Outcome;
@@ -13,6 +12,7 @@ use opened::open_texts;
 use pairs::Pairs;
 use plant::Plant;
 use plant::Table;
+use sides::Monitor;
 use stretch::look_back;
 use syntax::Rule;
 ghost use mathlib.Core.Path.{_≡_};

@@ -38,8 +38,8 @@ use Rattle.log.specs.Read.{bytesIn, logRead, eventAt, wholeLines}
 use Rattle.log.specs.Promises.{accepted-text}
 use Rattle.log.specs.Forms.{lines-many}
 use Rattle.checks.specs.Input.{formula-is}
-use Rattle.advance.specs.declared.Monitor.{Monitor}
-use Rattle.advance.specs.Held.{modelOf, lampIn}
+use Rattle.sides.specs.declared.Monitor.{Monitor}
+use Rattle.sides.specs.Held.{modelOf, lampIn}
 use Rattle.monitor.specs.declared.Watched.{Watched}
 use Rattle.watching.specs.Filled.{filled}
 use Rattle.watching.specs.Watching as watching

@@ -13,10 +13,9 @@ use Rattle.meaning.specs.Event.{Seen, History, seenAt, grow, since, none}
 use Rattle.meaning.specs.Event.{nothing as unseen-one}
 use Rattle.words.specs.Tests.{below-cases}
 use Rattle.log.specs.declared.Event.{Event}
-use Rattle.log.specs.Legal.{seenOf}
+use Rattle.log.specs.Legal.{seenOf, eventOf}
 use Rattle.log.specs.Log.{nothing}
-use Rattle.advance.specs.Held.{eventOf}
-use Rattle.advance.specs.Numbers.{numberOf, missingOf, unseen, brings}
+use Rattle.event_numbers.specs.Numbers.{numberOf, missingOf, unseen, brings}
 use Rattle.watching.specs.Filled.{expectedFrom, seenFrom, filled, expectedAt, numberAt, filled-more}
 use Rattle.closing.specs.Stretch.{begins}
 use Rattle.closing_right.specs.DayEnd.{stretch}

@@ -31,7 +31,7 @@ use Rattle.log.specs.Legal.{seenOf}
 use Rattle.log.specs.Log.{nothing, gives}
 use Rattle.log.specs.Lead.{isGiven}
 use Rattle.log.specs.Promises.{AllWritable}
-use Rattle.advance.specs.Numbers.{numberOf, missingOf}
+use Rattle.event_numbers.specs.Numbers.{numberOf, missingOf}
 use Rattle.watching.specs.Filled.{expectedFrom, seenFrom, filled, expectedAt, numberAt, expected-append}
 use Rattle.within.specs.Within.{HoldsWithin}
 use Rattle.within.specs.Seen.{Uses, holds-same}

@@ -12,8 +12,8 @@ use Rattle.answers.specs.declared.Verdict.the-variants as Verdicts
 use Rattle.answers.specs.Paper.{numberOf}
 use Rattle.syntax.specs.declared.Rule.{Rule}
 use Rattle.log.specs.declared.Event.{Event}
-use Rattle.advance.specs.declared.Monitor.{Monitor}
-use Rattle.advance.specs.Held.{modelOf, lampIn}
+use Rattle.sides.specs.declared.Monitor.{Monitor}
+use Rattle.sides.specs.Held.{modelOf, lampIn}
 use Rattle.closing.specs.declared.ClosingVerdict.{ClosingVerdict}
 use Rattle.closing.specs.declared.ClosingVerdict.the-variants.{Inconclusive, True, False, OutOfModel, PresumablyTrue, PresumablyFalse}
 use Rattle.closing.specs.declared.Closed.{Closed}

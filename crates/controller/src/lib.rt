@@ -1,5 +1,4 @@
 // A whole log in one call: the texts of a table, a rule and a log, and a buffer for the verdicts. What a controller's program calls once it has the log.
-use advance::Monitor;
 use answers::Kind;
 use answers::Outcome;
 use answers::Refusal;
@@ -8,6 +7,7 @@ use opened::open_texts;
 use pairs::Pairs;
 use plant::Plant;
 use plant::Table;
+use sides::Monitor;
 use syntax::Rule;
 ghost use mathlib.Core.Path.{_≡_};
 ghost use Prim.Native.Nat.{_≤_};

@@ -17,11 +17,11 @@ use Rattle.text.specs.Number.{widthOf}
 use Rattle.log.specs.Read.{eventAt, wholeLines}
 use Rattle.checks.specs.Checks.{inputOutcome}
 use Rattle.ways.specs.declared.Ways.{Ways}
-use Rattle.advance.specs.declared.Monitor.{Monitor}
-use Rattle.advance.specs.Held.{modelOf, lampIn}
-use Rattle.advance.specs.Numbers as numbers
-use Rattle.advance.specs.Numbers.{eventOutcome}
-use Rattle.advance.specs.Sides.{takenIn}
+use Rattle.sides.specs.declared.Monitor.{Monitor}
+use Rattle.sides.specs.Held.{modelOf, lampIn}
+use Rattle.event_numbers.specs.Numbers as numbers
+use Rattle.event_numbers.specs.Numbers.{eventOutcome}
+use Rattle.sides.specs.Sides.{takenIn}
 use Rattle.monitor.specs.declared.Watched.{Watched}
 use Rattle.monitor.specs.Calls.{stepCall}
 use Rattle.watching.specs.Watching.{T, f, Held}

@@ -22,11 +22,11 @@ use Rattle.checks.proofs.Given.{right, ready}
 use Rattle.truth.specs.Ready.{Ready}
 use Rattle.ways.specs.declared.Ways.{Ways}
 use Rattle.ways.specs.Ways.{waysOf}
-use Rattle.advance.specs.declared.Monitor.{Monitor}
-use Rattle.advance.specs.Held.{modelOf, monitorOf}
-use Rattle.advance.specs.Numbers.{eventOutcome}
-use Rattle.advance.specs.Sides.{takenIn}
-use Rattle.advance.specs.SidesRight.{taken-right}
+use Rattle.sides.specs.declared.Monitor.{Monitor}
+use Rattle.sides.specs.Held.{modelOf, monitorOf}
+use Rattle.event_numbers.specs.Numbers.{eventOutcome}
+use Rattle.sides.specs.Sides.{takenIn}
+use Rattle.sides.specs.SidesRight.{taken-right}
 use Rattle.monitor.specs.declared.Watched.{Watched}
 use Rattle.monitor.specs.Calls.{watched, openCall, stepCall}
 use Rattle.watching.specs.Watching.{T, f, Held, brought, live, live-fits, checks-pass, stays-held, open-held, full}

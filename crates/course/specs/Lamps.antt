@@ -17,9 +17,9 @@ use Rattle.answers.specs.declared.Outcome.the-variants.{Accepted, Refused}
 use Rattle.plant.specs.declared.Plant.{Plant}
 use Rattle.syntax.specs.declared.Rule.{Rule}
 use Rattle.log.specs.declared.Event.{Event}
-use Rattle.advance.specs.declared.Monitor.{Monitor}
-use Rattle.advance.specs.Held.{modelOf}
-use Rattle.advance.specs.Numbers.{brings}
+use Rattle.sides.specs.declared.Monitor.{Monitor}
+use Rattle.sides.specs.Held.{modelOf}
+use Rattle.event_numbers.specs.Numbers.{brings}
 use Rattle.monitor.specs.declared.Watched.{Watched}
 use Rattle.monitor.specs.Calls.{watched, table, formula, stepChecked, stepCall}
 use Rattle.course.specs.Course.{Course, takes, numberIn, goOn, courseTo, leftBytes}

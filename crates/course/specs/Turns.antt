@@ -18,11 +18,11 @@ use Rattle.log.specs.Legal.{legalOf}
 use Rattle.text.specs.Number.{widthOf}
 use Rattle.log.specs.Read.{eventAt}
 use Rattle.ways.specs.declared.Ways.{Ways}
-use Rattle.advance.specs.declared.Monitor.{Monitor}
-use Rattle.advance.specs.Held.{modelOf, lampIn}
-use Rattle.advance.specs.Numbers as numbers
-use Rattle.advance.specs.Numbers.{inTurn, in-turn-says, eventOutcome}
-use Rattle.advance.specs.Sides.{takenIn}
+use Rattle.sides.specs.declared.Monitor.{Monitor}
+use Rattle.sides.specs.Held.{modelOf, lampIn}
+use Rattle.event_numbers.specs.Numbers as numbers
+use Rattle.event_numbers.specs.Numbers.{inTurn, in-turn-says, eventOutcome}
+use Rattle.sides.specs.Sides.{takenIn}
 use Rattle.monitor.specs.declared.Watched.{Watched}
 use Rattle.course.specs.declared.Went.{Went}
 use Rattle.course.specs.Laid.{laid, laid-more, laid-length}

@@ -1,15 +1,15 @@
 // A whole log, line by line from a monitor on, with what the rule says worked out once and nothing checked but the events: the answers are those
 // of stepping one by one.
-use advance::Monitor;
 use advance::lamp;
-use advance::numbers::check_event;
-use advance::numbers::missing;
-use advance::numbers::number_of;
 use advance::take;
 use answers::Lamp;
 use answers::Outcome;
+use event_numbers::check_event;
+use event_numbers::missing;
+use event_numbers::number_of;
 use pairs::Pairs;
 use plant::Plant;
+use sides::Monitor;
 use syntax::Rule;
 use ways::Ways;
 ghost use mathlib.Core.Path.{_≡_};

@@ -15,7 +15,7 @@ use Rattle.plant.specs.declared.Plant.{Plant}
 use Rattle.syntax.specs.declared.Rule.{Rule}
 use Rattle.text.specs.Number.{widthOf, width-between}
 use Rattle.log.specs.declared.Event.{Event}
-use Rattle.advance.specs.declared.Monitor.{Monitor}
+use Rattle.sides.specs.declared.Monitor.{Monitor}
 use Rattle.monitor.specs.declared.Watched.{Watched}
 use Rattle.monitor.specs.Calls.{stepCall}
 use Rattle.radio.specs.declared.Radio.{Radio}

@@ -11,7 +11,7 @@ use Rattle.syntax.specs.declared.Rule.{Rule}
 use Rattle.log.specs.declared.Event.{Event}
 use Rattle.text.specs.Number.{widthOf}
 use Rattle.log.specs.Read.{eventAt, wholeLines}
-use Rattle.advance.specs.declared.Monitor.{Monitor}
+use Rattle.sides.specs.declared.Monitor.{Monitor}
 use Rattle.stretches.specs.declared.DaySheet.{DaySheet}
 use Rattle.day_sheet.specs.declared.Noted.{Noted}
 use Rattle.day_sheet.specs.Calls.{notedOf}

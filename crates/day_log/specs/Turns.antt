@@ -11,7 +11,7 @@ use Rattle.answers.specs.declared.Answer.the-variants as Answers
 use Rattle.answers.specs.declared.Outcome.{Outcome}
 use Rattle.answers.specs.declared.Outcome.the-variants.{Accepted, Refused}
 use Rattle.log.specs.declared.Event.{Event}
-use Rattle.advance.specs.declared.Monitor.{Monitor}
+use Rattle.sides.specs.declared.Monitor.{Monitor}
 use Rattle.stretches.specs.declared.DaySheet.{DaySheet}
 use Rattle.day_sheet.specs.declared.Noted.{Noted}
 use Rattle.day_log.specs.declared.DayWent.{DayWent}

@@ -1,10 +1,10 @@
 // The day of a whole log: each line noted, from a monitor and a sheet on, up to the first event that is refused.
-use advance::Monitor;
 use answers::Answer;
 use answers::Outcome;
 use day_sheet::note;
 use pairs::Pairs;
 use plant::Plant;
+use sides::Monitor;
 use stretches::DaySheet;
 use syntax::Rule;
 ghost use mathlib.Core.Path.{_≡_};

@@ -10,7 +10,7 @@ use Rattle.model.specs.Monitor as model
 use Rattle.answers.specs.declared.Verdict.{Verdict}
 use Rattle.answers.specs.Paper.{verdictFor}
 use Rattle.log.specs.declared.Event.{Event}
-use Rattle.advance.specs.Numbers.{numberOf, missingOf, brings}
+use Rattle.event_numbers.specs.Numbers.{numberOf, missingOf, brings}
 use Rattle.stretches.specs.declared.Stretch.{Stretch}
 use Rattle.stretches.specs.Afresh.{Shown, linesOf}
 

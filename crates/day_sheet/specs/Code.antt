@@ -11,10 +11,10 @@ use Rattle.answers.specs.declared.Lamp.{Lamp}
 use Rattle.log.specs.declared.Event.{Event}
 use Rattle.log.specs.Log.{nothing}
 use Rattle.ways.specs.declared.Ways.{Ways}
-use Rattle.advance.specs.declared.Monitor.{Monitor}
-use Rattle.advance.specs.Held.{modelOf, lampIn}
-use Rattle.advance.specs.Numbers.{numberOf, missingOf}
-use Rattle.advance.specs.Sides.{advancedIn}
+use Rattle.sides.specs.declared.Monitor.{Monitor}
+use Rattle.sides.specs.Held.{modelOf, lampIn}
+use Rattle.event_numbers.specs.Numbers.{numberOf, missingOf}
+use Rattle.sides.specs.Sides.{advancedIn}
 use Rattle.stretches.specs.declared.DaySheet.{DaySheet}
 use Rattle.stretches.specs.Sheet.{notedBy}
 use Rattle.day_sheet.specs.Calls.{opensOf}

@@ -30,9 +30,10 @@ use Rattle.syntax.specs.Value.{formulaOf}
 use Rattle.log.specs.declared.Event.{Event}
 use Rattle.checks.specs.Checks.{inputOutcome}
 use Rattle.checks.specs.Input.{Input}
-use Rattle.advance.specs.declared.Monitor.{Monitor}
-use Rattle.advance.specs.Held.{modelOf, monitorOf, eventOf}
-use Rattle.advance.specs.Numbers.{numberOf, missingOf, first-none, unseen, brings, InTurn, eventOutcome}
+use Rattle.sides.specs.declared.Monitor.{Monitor}
+use Rattle.log.specs.Legal.{eventOf}
+use Rattle.sides.specs.Held.{modelOf, monitorOf}
+use Rattle.event_numbers.specs.Numbers.{numberOf, missingOf, first-none, unseen, brings, InTurn, eventOutcome}
 use Rattle.monitor.specs.declared.Watched.{Watched}
 use Rattle.monitor.specs.Calls.{watched, openCall, stepCall}
 use Rattle.watching.specs.Filled.{expectedFrom, seenFrom, filledFrom, filled, filled-more, expected-append}

@@ -35,11 +35,12 @@ use Rattle.ways.specs.Ways.{waysOf}
 use Rattle.checks.specs.Input.{Input}
 use Rattle.checks.specs.Checks.{inputOutcome}
 use Rattle.checks.proofs.Given.{right, ready}
-use Rattle.advance.specs.declared.Monitor.{Monitor}
-use Rattle.advance.specs.Held.{modelOf, monitorOf, eventOf}
-use Rattle.advance.specs.Numbers.{numberOf, missingOf, first-none, unseen, brings}
-use Rattle.advance.specs.Sides.{advancedIn}
-use Rattle.advance.specs.SidesRight.{advanced-right}
+use Rattle.sides.specs.declared.Monitor.{Monitor}
+use Rattle.log.specs.Legal.{eventOf}
+use Rattle.sides.specs.Held.{modelOf, monitorOf}
+use Rattle.event_numbers.specs.Numbers.{numberOf, missingOf, first-none, unseen, brings}
+use Rattle.sides.specs.Sides.{advancedIn}
+use Rattle.sides.specs.SidesRight.{advanced-right}
 use Rattle.monitor.specs.declared.Watched.{Watched}
 use Rattle.monitor.specs.Calls.{lampOf, watched, stepChecked, stepCall}
 use Rattle.monitor.specs.Promises.{step-accepted}

@@ -1,12 +1,12 @@
 // The sheet behind an event that a step accepted. What the rule says is worked out once, and where no number is missing not at all.
-use advance::Monitor;
 use advance::advance;
 use advance::lamp;
-use advance::numbers::missing;
-use advance::numbers::number_of;
 use answers::Verdict;
+use event_numbers::missing;
+use event_numbers::number_of;
 use log::Event;
 use pairs::Pairs;
+use sides::Monitor;
 use stretches::DaySheet;
 use stretches::noted;
 use syntax::Rule;

@@ -1,7 +1,6 @@
 // An event noted beside the log: the monitor's step, and the day sheet with all that the event brings, the events that were not received among it.
 mod behind;
 
-use advance::Monitor;
 use answers::Answer;
 use answers::Kind;
 use answers::Outcome;
@@ -11,6 +10,7 @@ use log::Event;
 use monitor::Watched;
 use pairs::Pairs;
 use plant::Plant;
+use sides::Monitor;
 pub use stretches::DaySheet;
 use syntax::Rule;
 ghost use mathlib.Core.Path.{_≡_};

@@ -19,9 +19,9 @@ use Rattle.answers.specs.declared.Lamp.{Lamp}
 use Rattle.answers.specs.Paper.{numberOf}
 use Rattle.log.specs.declared.Event.{Event}
 use Rattle.ways.specs.declared.Ways.{Ways}
-use Rattle.advance.specs.declared.Monitor.{Monitor}
-use Rattle.advance.specs.Held.{modelOf, lampIn}
-use Rattle.advance.specs.Sides.{sidesOf, advancedIn}
+use Rattle.sides.specs.declared.Monitor.{Monitor}
+use Rattle.sides.specs.Held.{modelOf, lampIn}
+use Rattle.sides.specs.Sides.{sidesOf, advancedIn}
 use Rattle.columns.specs.Columns.{eventAt}
 use Rattle.machines.specs.Explored.{Exploring, MoreThan}
 use Rattle.explored.specs.Blocks.{blockAt, stored, block-here}

@@ -1,9 +1,9 @@
 // The monitor states that events lead to from the opening, each with a row, numbered as first reached. The states, 130 words each, and the cells behind 256 of
 // them share one lent slice, since two parts of one slice cannot be lent at once.
-use advance::Monitor;
 use advance::advance;
 use answers::Lamp;
 use pairs::Pairs;
+use sides::Monitor;
 use ways::Ways;
 ghost use mathlib.Core.Path.{_≡_};
 ghost use Prim.Native.Nat.{_+_, _*_, _<_, _≤_};

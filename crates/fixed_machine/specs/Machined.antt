@@ -32,10 +32,11 @@ use Rattle.live.specs.declared.Prepared.{Prepared}
 use Rattle.live.specs.Prepare.{preparedOf}
 use Rattle.live.specs.Promises.{prepare-outcome}
 use Rattle.ways.specs.Ways.{waysOf}
-use Rattle.advance.specs.declared.Monitor.{Monitor}
-use Rattle.advance.specs.Held.{modelOf, monitorOf, eventOf, lampIn}
-use Rattle.advance.specs.Sides.{openedBy, advancedIn}
-use Rattle.advance.specs.SidesRight.{opened-right, advanced-right}
+use Rattle.sides.specs.declared.Monitor.{Monitor}
+use Rattle.log.specs.Legal.{eventOf}
+use Rattle.sides.specs.Held.{modelOf, monitorOf, lampIn}
+use Rattle.sides.specs.Sides.{openedBy, advancedIn}
+use Rattle.sides.specs.SidesRight.{opened-right, advanced-right}
 use Rattle.columns.specs.Columns.{columnsOf, eventAt, countOf, columns-count, columns-at}
 use Rattle.machines.specs.Coded.{Coded, coded-made, coded-more, coded-back}
 use Rattle.explored.specs.States.{lampNumber, blockOf, monitorIn, stepOf, answerOf, block-back}

@@ -14,8 +14,8 @@ use Rattle.answers.specs.Paper.{refusedAt}
 use Rattle.syntax.specs.declared.Rule.{Rule}
 use Rattle.ways.specs.declared.Ways.{Ways}
 use Rattle.ways.specs.Ways.{waysOf}
-use Rattle.advance.specs.declared.Monitor.{Monitor}
-use Rattle.advance.specs.Sides.{openedBy}
+use Rattle.sides.specs.declared.Monitor.{Monitor}
+use Rattle.sides.specs.Sides.{openedBy}
 use Rattle.columns.specs.Columns.{countOf}
 use Rattle.machines.specs.Machine.{Machine, Proper}
 use Rattle.machines.specs.Held.{machineOf}

@@ -1,7 +1,5 @@
 // The rule as a small fixed machine: a table of bytes, by which a controller knows the lamp with one look-up for each event. It answers as the monitor does, and
 // has no row that could be spared.
-use advance::Monitor;
-use advance::opening::opened;
 use answers::Kind;
 use answers::Outcome;
 use answers::Refusal;
@@ -11,6 +9,8 @@ use joined::numbers::join;
 use machine_bytes::write_table;
 use pairs::Pairs;
 use plant::Plant;
+use sides::Monitor;
+use sides::opening::opened;
 use syntax::Rule;
 use ways::Ways;
 use ways::ways_of;

@@ -36,9 +36,9 @@ use Rattle.log.specs.Log.{nothing, gives}
 use Rattle.log.specs.Read.{bytesIn, logRead, wholeLines, eventAt}
 use Rattle.checks.specs.Input.{Input}
 use Rattle.live.specs.Promises.{prepare-accepted}
-use Rattle.advance.specs.declared.Monitor.{Monitor}
-use Rattle.advance.specs.Held.{modelOf, lampIn}
-use Rattle.advance.specs.Numbers.{numberOf, InTurn, inTurn, in-turn-says, eventOutcome}
+use Rattle.sides.specs.declared.Monitor.{Monitor}
+use Rattle.sides.specs.Held.{modelOf, lampIn}
+use Rattle.event_numbers.specs.Numbers.{numberOf, InTurn, inTurn, in-turn-says, eventOutcome}
 use Rattle.monitor.specs.declared.Watched.{Watched}
 use Rattle.monitor.specs.Calls as monitor
 use Rattle.monitor.specs.Calls.{openCall, stepCall}

@@ -13,7 +13,7 @@ use Rattle.answers.specs.declared.Lamp.{Lamp}
 use Rattle.answers.specs.Paper.{numberOf, kindNumber}
 use Rattle.log.specs.declared.Num.{Num}
 use Rattle.log.specs.declared.Event.{Event}
-use Rattle.advance.specs.Held.{modelOf, lampIn}
+use Rattle.sides.specs.Held.{modelOf, lampIn}
 use Rattle.monitor.specs.declared.Watched.{Watched}
 use Rattle.monitor.specs.Calls.{lookCall, stepCall}
 use Rattle.witness.specs.declared.Witnessed.{Witnessed}

@@ -29,9 +29,9 @@ use Rattle.rule_text.specs.Reading.{ruleRead}
 use Rattle.log.specs.declared.Event.{Event}
 use Rattle.checks.specs.Checks.{inputOutcome}
 use Rattle.syntax.specs.Value.{formulaOf}
-use Rattle.advance.specs.declared.Monitor.{Monitor}
-use Rattle.advance.specs.Held.{modelOf, monitorOf}
-use Rattle.advance.specs.Numbers.{numberOf, brings}
+use Rattle.sides.specs.declared.Monitor.{Monitor}
+use Rattle.sides.specs.Held.{modelOf, monitorOf}
+use Rattle.event_numbers.specs.Numbers.{numberOf, brings}
 use Rattle.live.specs.Prepare.{preparedOf}
 use Rattle.live.specs.Promises.{prepare-accepted}
 use Rattle.monitor.specs.declared.Watched.{Watched}

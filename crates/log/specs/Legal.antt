@@ -1,4 +1,4 @@
--- Check 10: what an event may see and give.
+-- What an event says, and check 10: what it may see and give.
 use Prim.Native.Nat.{ℕ, _^_, _≤_}
 use mathlib.Core.Path.{_≡_, refl, ap, _∙_}
 use mathlib.Core.Bool.{Bool, true, false, So, _&&_}
@@ -8,6 +8,7 @@ use lib.Dec.{leb, ltb, eqb}
 use Rattle.meaning.specs.Bit.{bit}
 use Rattle.meaning.specs.Says.{Says}
 use Rattle.meaning.specs.Run.{Plant}
+use Rattle.meaning.specs.Event as meaning
 use Rattle.meaning.specs.Event.{Seen}
 use Rattle.meaning.specs.Limits.{mostProps, Legal}
 use Rattle.words.specs.Truth.{and-says}
@@ -17,6 +18,10 @@ use Rattle.log.specs.declared.Event.{Event}
 -- what the event saw
 abbrev pub seenOf : Event → Seen
 seenOf e = record { see = e .see; val = e .val }
+
+-- and whether it restarts
+abbrev pub eventOf : Event → meaning.Event
+eventOf e = record { seen = seenOf e; new = e .new }
 
 -- for any count at all: at most 16 propositions, none seen beyond them, 1 given to none but those seen
 unfoldable pub legalOf : Event → ℕ → Bool

@@ -18,11 +18,11 @@ use Rattle.plant.specs.Table.{plantOf}
 use Rattle.syntax.specs.declared.Rule.{Rule}
 use Rattle.syntax.specs.Value.{formulaOf}
 use Rattle.log.specs.declared.Event.{Event}
-use Rattle.log.specs.Legal.{seenOf, legalOf}
+use Rattle.log.specs.Legal.{seenOf, legalOf, eventOf}
 use Rattle.log.specs.Log.{nothing}
 use Rattle.checks.specs.Input.{Input}
-use Rattle.advance.specs.Held.{eventOf, lampIn}
-use Rattle.advance.specs.Numbers.{numberOf}
+use Rattle.sides.specs.Held.{lampIn}
+use Rattle.event_numbers.specs.Numbers.{numberOf}
 use Rattle.monitor.specs.declared.Watched.{Watched}
 use Rattle.monitor.proofs.Given.{legal-is}
 use Rattle.watching.specs.Filled.{expectedFrom, filled}

@@ -15,7 +15,7 @@ use Rattle.text.specs.Lines.{start-is, lines-inside}
 use Rattle.log.specs.declared.Event.{Event}
 use Rattle.log.specs.Line.{line-fixed}
 use Rattle.log.specs.Read.{isNumbered, bytesIn, wholeLines, eventAt, logRead}
-use Rattle.advance.specs.declared.Monitor.{Monitor}
+use Rattle.sides.specs.declared.Monitor.{Monitor}
 use Rattle.opened.specs.declared.Opened.{Opened}
 use Rattle.opened.specs.Lent.{Lent}
 use Rattle.opened.specs.Opened.{fairIn, labelIn, nextIn, openedOf}

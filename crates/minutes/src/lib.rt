@@ -1,5 +1,4 @@
 // A day for the minutes: the texts of a table, a rule and a log, and the day sheet of the log, from the empty one on.
-use advance::Monitor;
 use answers::Outcome;
 use answers::Refusal;
 use day_log::note_log;
@@ -8,6 +7,7 @@ use opened::open_texts;
 use pairs::Pairs;
 use plant::Plant;
 use plant::Table;
+use sides::Monitor;
 use stretches::DaySheet;
 use syntax::Rule;
 ghost use mathlib.Core.Path.{_≡_};

@@ -30,11 +30,11 @@ use Rattle.checks.specs.Checks.{inputOutcome, pairsFit}
 use Rattle.checks.specs.Exactly.{fit-is, join-says}
 use Rattle.checks.specs.Input.{Input}
 use Rattle.checks.proofs.Given.{accepted, right, parts-is}
-use Rattle.advance.specs.declared.Monitor.{Monitor}
-use Rattle.advance.specs.Held.{modelOf, monitorOf}
-use Rattle.advance.specs.Numbers.{numberOf, brings, inTurn, in-turn-says, eventOutcome}
-use Rattle.advance.specs.Sides.{openedBy, takenIn}
-use Rattle.advance.specs.SidesRight.{opened-right, taken-right}
+use Rattle.sides.specs.declared.Monitor.{Monitor}
+use Rattle.sides.specs.Held.{modelOf, monitorOf}
+use Rattle.event_numbers.specs.Numbers.{numberOf, brings, inTurn, in-turn-says, eventOutcome}
+use Rattle.sides.specs.Sides.{openedBy, takenIn}
+use Rattle.sides.specs.SidesRight.{opened-right, taken-right}
 use Rattle.monitor.specs.declared.Watched.{Watched}
 use Rattle.monitor.specs.Calls.{noMonitor, lampOf, watched, lit, table, formula, checkedOf, openCall, monitorFits, lookCall, stepChecked, stepCall}
 use Rattle.monitor.specs.Checked.{fitOf, heldOf, caughtOf}

@@ -24,9 +24,9 @@ use Rattle.syntax.specs.Value.{formulaOf}
 use Rattle.log.specs.declared.Event.{Event}
 use Rattle.log.specs.Legal.{seenOf}
 use Rattle.checks.specs.Checks.{inputOutcome}
-use Rattle.advance.specs.declared.Monitor.{Monitor}
-use Rattle.advance.specs.Held.{modelOf, monitorOf}
-use Rattle.advance.specs.Numbers.{numberOf, brings, inTurn}
+use Rattle.sides.specs.declared.Monitor.{Monitor}
+use Rattle.sides.specs.Held.{modelOf, monitorOf}
+use Rattle.event_numbers.specs.Numbers.{numberOf, brings, inTurn}
 use Rattle.monitor.specs.declared.Watched.{Watched}
 
 -- the monitor beside a refusal to open one

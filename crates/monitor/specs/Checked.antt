@@ -13,8 +13,8 @@ use Rattle.syntax.specs.declared.Rule.{Rule}
 use Rattle.syntax.specs.Value.{formulaOf}
 use Rattle.log.specs.declared.Event.{Event}
 use Rattle.checks.specs.Checks.{pairsFit}
-use Rattle.advance.specs.declared.Monitor.{Monitor}
-use Rattle.advance.specs.Numbers.{eventOutcome}
+use Rattle.sides.specs.declared.Monitor.{Monitor}
+use Rattle.event_numbers.specs.Numbers.{eventOutcome}
 use Rattle.monitor.specs.Calls.{checkedOf}
 
 module _ (p : Plant) (fair label next : List ℕ) (rule : Rule) where

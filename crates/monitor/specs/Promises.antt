@@ -31,9 +31,9 @@ use Rattle.log.specs.declared.Event.{Event}
 use Rattle.log.specs.Legal.{seenOf}
 use Rattle.checks.specs.Checks.{inputOutcome}
 use Rattle.checks.specs.Input.{Input, input-accepted}
-use Rattle.advance.specs.declared.Monitor.{Monitor}
-use Rattle.advance.specs.Held.{modelOf}
-use Rattle.advance.specs.Numbers.{numberOf, brings, InTurn, inTurn, in-turn-says}
+use Rattle.sides.specs.declared.Monitor.{Monitor}
+use Rattle.sides.specs.Held.{modelOf}
+use Rattle.event_numbers.specs.Numbers.{numberOf, brings, InTurn, inTurn, in-turn-says}
 use Rattle.monitor.specs.Calls.{noMonitor, lampOf, watched, table, formula, checkedOf, openCall, monitorFits, stepChecked, stepCall}
 
 -- the lamp on paper: the verdict's number and `left`

@@ -1,18 +1,18 @@
 // The monitor: opened, looked at, stepped, by value. Here are the checks and the calls; how it moves is in advance.
 mod single;
 
-pub use advance::Monitor;
-use advance::numbers::check_event;
 use answers::Answer;
 use answers::Kind;
 use answers::Outcome;
 use answers::Refusal;
+use event_numbers::check_event;
 use log::Event;
 use pairs::Pairs;
 use plant::Plant;
+pub use sides::Monitor;
 use syntax::Rule;
 ghost use mathlib.Core.Path.{_≡_};
-ghost use Rattle.advance.specs.Held.{modelOf};
+ghost use Rattle.sides.specs.Held.{modelOf};
 ghost use Rattle.monitor.specs.Calls.{lampOf, openCall, lookCall, stepCall};
 ghost use Rattle.monitor.specs.Checked.{heldOf, caughtOf};
 
@@ -49,7 +49,7 @@ fn check_held(
             let states = words::all(plant.states);
             let count = moves::valuations(syntax::parts_of(rule));
             let fits = checks::pairs_fit(one, states, count)
-                & (checks::pairs_fit(two, states, count) & (expected <= Monitor::USED_UP));
+                & (checks::pairs_fit(two, states, count) & (expected <= event_numbers::USED_UP));
             if fits {
                 return Outcome::Accepted;
             }

@@ -1,20 +1,20 @@
 // A monitor opened, or with one event more, for a rule that is handed in: of what the rule says, only what the case needs is worked out.
-use advance::Monitor;
 use advance::catch_up;
-use advance::numbers::missing;
-use advance::numbers::number_of;
-use advance::opening;
-use advance::sides;
+use event_numbers::missing;
+use event_numbers::number_of;
 use log::Event;
 use pairs::Pairs;
+use sides;
+use sides::Monitor;
+use sides::opening;
 use syntax::Rule;
 ghost use mathlib.Core.Path.{_≡_};
 ghost use mathlib.Core.Bool.{false};
 ghost use Rattle.truth.specs.Ready.{Ready};
 ghost use Rattle.ways.specs.Ways.{waysOf};
 ghost use Prim.Native.Nat.{_<_, _^_};
-ghost use Rattle.advance.specs.Numbers.{numberOf};
-ghost use Rattle.advance.specs.Sides.{openedBy, movedIn, restartedIn, caughtUpIn, cameIn, takenIn};
+ghost use Rattle.event_numbers.specs.Numbers.{numberOf};
+ghost use Rattle.sides.specs.Sides.{openedBy, movedIn, restartedIn, caughtUpIn, cameIn, takenIn};
 
 pub fn opened(start: u64, label: &[u16], rule: Rule, live: Pairs) -> Monitor
     requires { ⌜ Ready (now label) rule ⌝ }

@@ -2,7 +2,6 @@
 // mean, and not by our monitor; only a claim that one run can't prove is compared with our verdict.
 pub mod report;
 
-use advance::Monitor;
 use advance::lamp;
 use answers::Outcome;
 use answers::Refusal;
@@ -21,6 +20,7 @@ use shown::Failing;
 use shown::Found;
 use shown::check_run;
 use shown::positions::mark_of;
+use sides::Monitor;
 use syntax::Rule;
 ghost use mathlib.Core.Path.{_≡_};
 ghost use Prim.Native.Nat.{_≤_};

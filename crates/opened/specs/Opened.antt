@@ -12,7 +12,7 @@ use Rattle.syntax.specs.declared.Rule.{Rule}
 use Rattle.syntax.specs.Value.{emptyRule}
 use Rattle.rule_text.specs.Reading.{ruleRead}
 use Rattle.live.specs.Prepare.{preparedOf}
-use Rattle.advance.specs.declared.Monitor.{Monitor}
+use Rattle.sides.specs.declared.Monitor.{Monitor}
 use Rattle.monitor.specs.Calls.{noMonitor, openCall}
 use Rattle.opened.specs.declared.Opened.{Opened}
 

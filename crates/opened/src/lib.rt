@@ -1,9 +1,9 @@
 // A table and a rule, both as texts, as every call on a whole log begins: read, the live set prepared, the monitor opened.
-use advance::Monitor;
 use answers::Outcome;
 use answers::Refusal;
 use pairs::Pairs;
 use plant::Table;
+use sides::Monitor;
 use syntax::Rule;
 ghost use mathlib.Core.Path.{_≡_};
 ghost use Rattle.opened.specs.Lent.{Lent};

@@ -11,7 +11,7 @@ use Rattle.answers.specs.declared.Outcome.{Outcome}
 use Rattle.answers.specs.declared.Outcome.the-variants as Outcomes
 use Rattle.plant.specs.declared.Plant.{Plant}
 use Rattle.syntax.specs.declared.Rule.{Rule}
-use Rattle.advance.specs.declared.Monitor.{Monitor}
+use Rattle.sides.specs.declared.Monitor.{Monitor}
 use Rattle.walk.specs.declared.Lengths.{Lengths}
 use Rattle.witness.specs.declared.Witnessed.{Witnessed}
 use Rattle.witness.specs.declared.Witnessed.the-variants.{Run, Refused}

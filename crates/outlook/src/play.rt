@@ -1,8 +1,8 @@
 // Where a log ends: the calls, one after the other, and the log by the one loop over its lines.
-use advance::Monitor;
 use answers::Outcome;
 use pairs::Pairs;
 use plant::Plant;
+use sides::Monitor;
 use syntax::Rule;
 ghost use mathlib.Core.Path.{_≡_};
 ghost use Rattle.answers.specs.declared.Outcome.the-variants.{Accepted};

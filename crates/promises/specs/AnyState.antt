@@ -37,9 +37,10 @@ use Rattle.answers.specs.Paper.{verdict, paper}
 use Rattle.plant.specs.declared.Plant.{Plant}
 use Rattle.syntax.specs.declared.Rule.{Rule}
 use Rattle.log.specs.declared.Event.{Event}
-use Rattle.advance.specs.declared.Monitor.{Monitor}
-use Rattle.advance.specs.Held.{modelOf, eventOf}
-use Rattle.advance.specs.Numbers.{numberOf, missingOf, unseen, brings}
+use Rattle.sides.specs.declared.Monitor.{Monitor}
+use Rattle.log.specs.Legal.{eventOf}
+use Rattle.sides.specs.Held.{modelOf}
+use Rattle.event_numbers.specs.Numbers.{numberOf, missingOf, unseen, brings}
 use Rattle.monitor.specs.declared.Watched.{Watched}
 use Rattle.monitor.specs.Calls.{noMonitor, lampOf, watched, lit, openCall, lookCall, stepChecked, stepCall}
 use Rattle.monitor.specs.Promises.{lamp-paper, Fits, open-accepted, look-accepted, step-accepted}

@@ -38,9 +38,9 @@ use Rattle.plant.specs.declared.Plant.{Plant}
 use Rattle.syntax.specs.declared.Rule.{Rule}
 use Rattle.log.specs.declared.Event.{Event}
 use Rattle.checks.specs.Input.{Input}
-use Rattle.advance.specs.declared.Monitor.{Monitor}
-use Rattle.advance.specs.Held.{modelOf}
-use Rattle.advance.specs.Numbers.{numberOf, eventOutcome}
+use Rattle.sides.specs.declared.Monitor.{Monitor}
+use Rattle.sides.specs.Held.{modelOf}
+use Rattle.event_numbers.specs.Numbers.{numberOf, eventOutcome}
 use Rattle.monitor.specs.declared.Watched.{Watched}
 use Rattle.monitor.specs.Calls.{lampOf, lit, lookCall, openCall}
 use Rattle.monitor.specs.Promises.{Fits, look-accepted}

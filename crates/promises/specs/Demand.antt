@@ -30,10 +30,10 @@ use Rattle.plant.specs.declared.Plant.{Plant}
 use Rattle.syntax.specs.declared.Rule.{Rule}
 use Rattle.log.specs.declared.Event.{Event}
 use Rattle.checks.specs.Input.{Input}
-use Rattle.advance.specs.declared.Monitor.{Monitor}
-use Rattle.advance.specs.Held.{eventOf}
-use Rattle.advance.specs.Numbers as numbers
-use Rattle.advance.specs.Numbers.{missingOf, unseen, brings}
+use Rattle.sides.specs.declared.Monitor.{Monitor}
+use Rattle.log.specs.Legal.{eventOf}
+use Rattle.event_numbers.specs.Numbers as numbers
+use Rattle.event_numbers.specs.Numbers.{missingOf, unseen, brings}
 use Rattle.monitor.specs.Calls.{lampOf}
 use Rattle.monitor.specs.Promises.{lamp-paper}
 use Rattle.watching.specs.Watching as watching

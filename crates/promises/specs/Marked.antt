@@ -33,7 +33,7 @@ use Rattle.log.specs.Legal.{legalOf}
 use Rattle.log.specs.Lead.{leading}
 use Rattle.log.specs.Read as log-read
 use Rattle.syntax.specs.Value.{formulaOf}
-use Rattle.advance.specs.Numbers.{inTurn, eventOutcome}
+use Rattle.event_numbers.specs.Numbers.{inTurn, eventOutcome}
 use Rattle.promises.specs.ThreeTexts.{shownFor, Said, saidBy, modelShown, texts-shown}
 
 -- ---- texts

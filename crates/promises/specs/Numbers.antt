@@ -16,8 +16,8 @@ use Rattle.log.specs.declared.Event.{Event}
 use Rattle.log.specs.declared.Num.the-variants.{Expected, Given}
 use Rattle.log.specs.Log.{nothing}
 use Rattle.checks.specs.Input.{Input}
-use Rattle.advance.specs.Held.{eventOf}
-use Rattle.advance.specs.Numbers.{numberOf, unseen}
+use Rattle.log.specs.Legal.{eventOf}
+use Rattle.event_numbers.specs.Numbers.{numberOf, unseen}
 use Rattle.monitor.specs.declared.Watched.{Watched}
 use Rattle.watching.specs.Filled.{seenFrom, expectedFrom, filledFrom, filled, filled-append, expected-append}
 use Rattle.watching.specs.Watching as watching

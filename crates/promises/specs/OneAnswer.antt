@@ -21,7 +21,7 @@ use Rattle.answers.specs.declared.Outcome.{Outcome}
 use Rattle.answers.specs.declared.Outcome.the-variants.{Accepted, Refused}
 use Rattle.plant.specs.Table.{plantOf}
 use Rattle.syntax.specs.Value.{formulaOf}
-use Rattle.advance.specs.Held.{modelOf}
+use Rattle.sides.specs.Held.{modelOf}
 use Rattle.walk.specs.declared.Lengths.{Lengths}
 use Rattle.walk.specs.Shows.{Shows}
 use Rattle.witness.specs.declared.Witnessed.{Witnessed}

@@ -30,7 +30,7 @@ use Rattle.log.specs.declared.LogRead.{LogRead}
 use Rattle.log.specs.Read.{logRead, eventAt}
 use Rattle.syntax.specs.Value.{formulaOf}
 use Rattle.checks.specs.Input.{Input, given}
-use Rattle.advance.specs.Numbers.{numberOf, eventOutcome}
+use Rattle.event_numbers.specs.Numbers.{numberOf, eventOutcome}
 use Rattle.monitor.specs.declared.Watched.{Watched}
 use Rattle.monitor.specs.Promises.{lamp-paper}
 use Rattle.watching.specs.Filled.{filled}

@@ -24,10 +24,10 @@ use Rattle.log.specs.Read.{isNumbered, bytesIn, eventAt}
 use Rattle.checks.specs.Input.{Input, input-accepted}
 use Rattle.ways.specs.declared.Ways.{Ways}
 use Rattle.ways.specs.Ways.{waysOf}
-use Rattle.advance.specs.declared.Monitor.{Monitor}
-use Rattle.advance.specs.Held.{modelOf, lampIn}
-use Rattle.advance.specs.Numbers.{eventOutcome}
-use Rattle.advance.specs.Sides.{takenIn}
+use Rattle.sides.specs.declared.Monitor.{Monitor}
+use Rattle.sides.specs.Held.{modelOf, lampIn}
+use Rattle.event_numbers.specs.Numbers.{eventOutcome}
+use Rattle.sides.specs.Sides.{takenIn}
 use Rattle.monitor.specs.declared.Watched.{Watched}
 use Rattle.monitor.specs.Calls.{stepCall}
 use Rattle.watching.specs.Watching.{T, f, Held, stays-held}

@@ -19,7 +19,7 @@ use Rattle.plant.specs.declared.Plant.{Plant}
 use Rattle.ways.specs.declared.Ways.{Ways}
 use Rattle.course.specs.Laid.{laid}
 use Rattle.course.specs.Course.{turn}
-use Rattle.advance.specs.declared.Monitor.{Monitor}
+use Rattle.sides.specs.declared.Monitor.{Monitor}
 use Rattle.monitor.specs.declared.Watched.{Watched}
 use Rattle.radio.specs.declared.Lit.{Lit}
 use Rattle.radio.specs.declared.Lit.the-variants.{Dark, Verdict}

@@ -25,7 +25,7 @@ use Rattle.text.specs.Promises.{fitOf}
 use Rattle.log.specs.declared.Event.{Event}
 use Rattle.log.specs.Line.{line, lineBytes, line-reads}
 use Rattle.log.specs.Read.{isNumbered, bytesIn, eventAt}
-use Rattle.advance.specs.declared.Monitor.{Monitor}
+use Rattle.sides.specs.declared.Monitor.{Monitor}
 use Rattle.monitor.specs.declared.Watched.{Watched}
 use Rattle.radio.specs.declared.Form.{Form}
 use Rattle.radio.specs.Radio.{Ear, Heard, agrees, goodOf, begins, stopped, kept, answered, ended, lengthened, byteHeard, hear, hearAll}

@@ -15,7 +15,7 @@ use Rattle.text.specs.Promises.{fitOf}
 use Rattle.log.specs.declared.Event.{Event}
 use Rattle.log.specs.Line.{line}
 use Rattle.log.specs.Read.{isNumbered, bytesIn, eventAt}
-use Rattle.advance.specs.declared.Monitor.{Monitor}
+use Rattle.sides.specs.declared.Monitor.{Monitor}
 use Rattle.monitor.specs.declared.Watched.{Watched}
 use Rattle.radio.specs.declared.Form.{Form}
 use Rattle.radio.specs.declared.Form.the-variants.{Unknown, Plain, Numbered}

@@ -20,7 +20,7 @@ use Rattle.text.specs.Cases.{below-or-beyond}
 use Rattle.log.specs.declared.Event.{Event}
 use Rattle.log.specs.Line.{lineBytes, line-fixed}
 use Rattle.log.specs.Read.{isNumbered, bytesIn, eventAt}
-use Rattle.advance.specs.declared.Monitor.{Monitor}
+use Rattle.sides.specs.declared.Monitor.{Monitor}
 use Rattle.monitor.specs.declared.Watched.{Watched}
 use Rattle.course.specs.Laid.{laid, laid-more, laid-length}
 use Rattle.radio.specs.declared.Form.{Form}

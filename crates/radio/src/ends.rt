@@ -2,22 +2,22 @@
 use crate::Lit;
 use crate::Radio;
 use crate::line::form_of;
-use advance::Monitor;
 use advance::lamp;
-use advance::numbers::check_event;
-use advance::numbers::missing;
-use advance::numbers::number_of;
 use advance::take;
 use answers::Outcome;
 use answers::Refusal;
+use event_numbers::check_event;
+use event_numbers::missing;
+use event_numbers::number_of;
 use log::Event;
 use plant::Plant;
+use sides::Monitor;
 ghost use mathlib.Core.Path.{_≡_};
 ghost use Prim.Native.Nat.{_+_, _^_, _≤_, _<_};
 ghost use lib.ListN.{length};
 ghost use Rattle.text.specs.Number.{widthOf};
-ghost use Rattle.advance.specs.Numbers.{numberOf};
-ghost use Rattle.advance.specs.Sides.{takenIn};
+ghost use Rattle.event_numbers.specs.Numbers.{numberOf};
+ghost use Rattle.sides.specs.Sides.{takenIn};
 ghost use Rattle.radio.specs.Kept.{turnBy, waysBy, endedTurn, turnedOf};
 
 // The radio behind a line, and the verdict.

@@ -4,7 +4,6 @@ mod ends;
 mod line;
 mod piece;
 
-use advance::Monitor;
 use answers::Outcome;
 use answers::Refusal;
 use ends::end_line;
@@ -13,6 +12,7 @@ use line::joined;
 use pairs::Pairs;
 use piece::piece;
 use plant::Plant;
+use sides::Monitor;
 use syntax::Rule;
 use ways::Ways;
 ghost use mathlib.Core.Path.{_≡_};

@@ -9,7 +9,7 @@ use Rattle.answers.specs.declared.Kind.the-variants.{IllegalEvent, LogText, Num
 use Rattle.answers.specs.declared.Outcome.{Outcome}
 use Rattle.answers.specs.declared.Outcome.the-variants.{Accepted, Refused}
 use Rattle.answers.specs.Paper.{kindNumber, refusedAt}
-use Rattle.advance.specs.declared.Monitor.{Monitor}
+use Rattle.sides.specs.declared.Monitor.{Monitor}
 use Rattle.radio.specs.declared.Form.{Form}
 use Rattle.radio.specs.declared.Form.the-variants.{Unknown, Plain, Numbered}
 use Rattle.radio.specs.declared.Radio.{Radio}

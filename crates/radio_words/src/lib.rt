@@ -1,11 +1,11 @@
 // Ten words of a C program's box for a log that comes in scraps: five of the part, eight bytes each, and then its length, where it begins, the form, and the
 // number and place of the refusal that stands. Zeros are the radio that has heard nothing. Any words are read; whether each can stand there is told beside.
-use advance::Monitor;
 use answers::Kind;
 use answers::Outcome;
 use answers::Refusal;
 use radio::Form;
 use radio::Radio;
+use sides::Monitor;
 ghost use mathlib.Core.Path.{_≡_};
 ghost use Prim.Native.Nat.{_+_, _<_};
 ghost use Rattle.radio_words.specs.Words.{byteIn, partIn, formIn, standingIn, radioIn, canStand, packedAt, formCode, standingCode, standingPlace, radioWord, changedWord, withRadio};

@@ -26,9 +26,9 @@ use Rattle.syntax.specs.Value.{formulaOf}
 use Rattle.rule_value.specs.Valid.{RuleValue}
 use Rattle.log.specs.declared.Event.{Event}
 use Rattle.log.specs.Legal.{seenOf}
-use Rattle.advance.specs.declared.Monitor.{Monitor}
-use Rattle.advance.specs.Held.{modelOf}
-use Rattle.advance.specs.Numbers.{numberOf, InTurn}
+use Rattle.sides.specs.declared.Monitor.{Monitor}
+use Rattle.sides.specs.Held.{modelOf}
+use Rattle.event_numbers.specs.Numbers.{numberOf, InTurn}
 
 -- ---- a table of causes
 

@@ -51,9 +51,9 @@ use Rattle.log.specs.declared.Event.{Event}
 use Rattle.log.specs.Legal.{seenOf}
 use Rattle.checks.specs.Checks.{inputOutcome}
 use Rattle.checks.specs.Input.{Input, given, formula-is}
-use Rattle.advance.specs.declared.Monitor.{Monitor}
-use Rattle.advance.specs.Held.{modelOf}
-use Rattle.advance.specs.Numbers.{numberOf, inTurn, in-turn-says}
+use Rattle.sides.specs.declared.Monitor.{Monitor}
+use Rattle.sides.specs.Held.{modelOf}
+use Rattle.event_numbers.specs.Numbers.{numberOf, inTurn, in-turn-says}
 use Rattle.live.specs.Prepare.{preparedOf}
 use Rattle.live.specs.Promises.{prepare-outcome}
 use Rattle.monitor.specs.Calls.{watched, lit, checkedOf, openCall, monitorFits, lookCall, stepChecked, stepCall}

@@ -20,8 +20,8 @@ use Rattle.log.specs.declared.LogRead.{LogRead}
 use Rattle.log.specs.Log.{nothing}
 use Rattle.log.specs.Read.{bytesIn, eventAt, wholeLines}
 use Rattle.checks.specs.Input.{formula-is}
-use Rattle.advance.specs.declared.Monitor.{Monitor}
-use Rattle.advance.specs.Held.{modelOf, lampIn}
+use Rattle.sides.specs.declared.Monitor.{Monitor}
+use Rattle.sides.specs.Held.{modelOf, lampIn}
 use Rattle.monitor.specs.declared.Watched.{Watched}
 use Rattle.watching.specs.Filled.{filled}
 use Rattle.watching.specs.Watching as watching

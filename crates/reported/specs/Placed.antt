@@ -19,11 +19,10 @@ use Rattle.log.specs.declared.Num.{Num}
 use Rattle.log.specs.declared.Num.the-variants.{Expected, Given}
 use Rattle.log.specs.declared.Event.{Event}
 use Rattle.log.specs.Lead.{isGiven, givenOf}
-use Rattle.log.specs.Legal.{seenOf}
+use Rattle.log.specs.Legal.{seenOf, eventOf}
 use Rattle.log.specs.Log.{nothing}
 use Rattle.log.specs.Promises.{AllWritable}
-use Rattle.advance.specs.Held.{eventOf}
-use Rattle.advance.specs.Numbers.{numberOf, missingOf, unseen}
+use Rattle.event_numbers.specs.Numbers.{numberOf, missingOf, unseen}
 use Rattle.watching.specs.Filled.{expectedFrom, seenFrom, filled, expectedAt, numberAt, InTurnAt, filled-more, expected-append}
 use Rattle.shown.specs.Positions.{positionOf, positionAt, markOf}
 use Rattle.shown.specs.Shown.{AgreesAll}

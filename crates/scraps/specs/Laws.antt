@@ -31,8 +31,8 @@ use Rattle.plant.specs.declared.Plant.{Plant}
 use Rattle.syntax.specs.declared.Rule.{Rule}
 use Rattle.text.specs.Cases.{below-or-beyond}
 use Rattle.text.specs.Number.{widthOf}
-use Rattle.advance.specs.declared.Monitor.{Monitor}
-use Rattle.advance.specs.Held.{modelOf}
+use Rattle.sides.specs.declared.Monitor.{Monitor}
+use Rattle.sides.specs.Held.{modelOf}
 use Rattle.monitor.specs.Calls.{lit, table, formula, checkedOf, monitorFits, lookCall, stepCall}
 use Rattle.watching.specs.Watching.{Held}
 use Rattle.course.specs.Course.{Fitting}

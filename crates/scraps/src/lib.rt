@@ -1,5 +1,4 @@
 // Logs arriving by radio: the two calls. `take` hears a scrap of any length, cut anywhere; `finish` says how the log ends where it stands.
-use advance::Monitor;
 use answers::Answer;
 use answers::Kind;
 use answers::Outcome;
@@ -12,6 +11,7 @@ use plant::Plant;
 use radio::Radio;
 use radio::begins_line;
 use radio::listen;
+use sides::Monitor;
 use syntax::Rule;
 ghost use mathlib.Core.Path.{_≡_};
 ghost use Prim.Native.Nat.{_+_, _≤_};

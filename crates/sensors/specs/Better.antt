@@ -22,10 +22,10 @@ use Rattle.answers.specs.Paper as paper
 use Rattle.syntax.specs.declared.Rule.{Rule}
 use Rattle.syntax.specs.Value.{formulaOf}
 use Rattle.log.specs.declared.Event.{Event}
-use Rattle.log.specs.Legal.{seenOf}
+use Rattle.log.specs.Legal.{seenOf, eventOf}
 use Rattle.log.specs.Log.{nothing}
-use Rattle.advance.specs.Held.{eventOf, lampIn}
-use Rattle.advance.specs.Numbers.{numberOf, missingOf, unseen}
+use Rattle.sides.specs.Held.{lampIn}
+use Rattle.event_numbers.specs.Numbers.{numberOf, missingOf, unseen}
 use Rattle.monitor.specs.declared.Watched.{Watched}
 use Rattle.watching.specs.Filled.{expectedFrom, seenFrom, filledFrom, filled}
 use Rattle.watching.specs.Watching as watching

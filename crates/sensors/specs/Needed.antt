@@ -49,7 +49,7 @@ use Rattle.rule_text.specs.Reading.{unknown, unknownAt}
 use Rattle.log.specs.Legal.{legalOf}
 use Rattle.log.specs.Lead.{leading}
 use Rattle.log.specs.Read as log-read
-use Rattle.advance.specs.Numbers.{inTurn, eventOutcome}
+use Rattle.event_numbers.specs.Numbers.{inTurn, eventOutcome}
 use Rattle.promises.specs.Marked.{bytes, lines, Row}
 use Rattle.promises.specs.ThreeTexts.{shownFor, Said, saidBy, modelShown, texts-shown}
 

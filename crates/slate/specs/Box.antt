@@ -13,7 +13,7 @@ use Rattle.syntax.specs.declared.Op.the-variants.{False, True, Prop, Not, Next,
 use Rattle.syntax.specs.declared.Node.{Node}
 use Rattle.syntax.specs.declared.Rule.{Rule}
 use Rattle.syntax.specs.Value.{blank}
-use Rattle.advance.specs.declared.Monitor.{Monitor}
+use Rattle.sides.specs.declared.Monitor.{Monitor}
 use Rattle.slate.specs.declared.Held.{Held}
 
 -- ---- reading

@@ -14,7 +14,7 @@ use Rattle.words.specs.Lists.{length-list, at-list, of-list, list-at, list-of}
 use Rattle.syntax.specs.declared.Op.{Op}
 use Rattle.syntax.specs.declared.Op.the-variants.{False, True, Prop, Not, Next, Finally, Globally, Until, Release, And, Or, Implies}
 use Rattle.syntax.specs.Value.{blank}
-use Rattle.advance.specs.declared.Monitor.{Monitor}
+use Rattle.sides.specs.declared.Monitor.{Monitor}
 use Rattle.slate.specs.declared.Held.{Held}
 use Rattle.slate.specs.Box.{
   canBe,

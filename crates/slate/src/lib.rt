@@ -3,10 +3,10 @@
 mod reading;
 mod writing;
 
-use advance::Monitor;
 use pairs::Pairs;
 use plant::Table;
 pub use reading::held_in;
+use sides::Monitor;
 use syntax::Rule;
 pub use writing::stored;
 pub use writing::with_monitor;

@@ -1,9 +1,9 @@
 // What the words say.
 use crate::Held;
-use advance::Monitor;
 use pairs::Pairs;
 use plant::Plant;
 use plant::Table;
+use sides::Monitor;
 use syntax::Node;
 use syntax::Op;
 use syntax::Rule;

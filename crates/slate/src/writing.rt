@@ -1,8 +1,8 @@
 // The words for what is held.
 use crate::Held;
-use advance::Monitor;
 use plant::Plant;
 use plant::Table;
+use sides::Monitor;
 use syntax::Op;
 use syntax::Rule;
 ghost use mathlib.Core.Path.{_≡_};

@@ -1,11 +1,11 @@
 // For the benches: as often as turns.txt says, a table and a rule are prepared, a log is run, and witnesses are asked for; what was found
 // is written as digests.
 // No time is measured here: bench/run takes that of whole runs. A file that is refused gives the empty table, rule or log, and so another digest.
-use advance::Monitor;
 use files::File;
 use libc::STDOUT_FILENO;
 use pairs::Pairs;
 use plant::Plant;
+use sides::Monitor;
 use syntax::Rule;
 use walk::Lengths;
 use witness::Witnessed;

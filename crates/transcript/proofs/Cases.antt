@@ -23,7 +23,7 @@ use Rattle.log.specs.Read.{isNumbered, bytesIn, wholeLines}
 use Rattle.syntax.specs.declared.Rule.{Rule}
 use Rattle.live.specs.Prepare.{preparedOf}
 use Rattle.live.specs.Promises.{prepare-accepted}
-use Rattle.advance.specs.declared.Monitor.{Monitor}
+use Rattle.sides.specs.declared.Monitor.{Monitor}
 use Rattle.monitor.specs.declared.Watched.{Watched}
 use Rattle.monitor.specs.Calls.{openCall}
 use Rattle.course.specs.declared.Went.{Went}

@@ -2,13 +2,13 @@
 use crate::lines::put_lamps;
 use crate::lines::put_refused;
 use crate::lines::put_start;
-use advance::Monitor;
 use answers::Answer;
 use answers::Kind;
 use answers::Outcome;
 use answers::Refusal;
 use pairs::Pairs;
 use plant::Plant;
+use sides::Monitor;
 use syntax::Rule;
 ghost use mathlib.Core.Path.{_≡_};
 ghost use mathlib.Core.List.{_++_};

@@ -7,7 +7,7 @@ use lib.ListN.{length, getD, take}
 use Rattle.meaning.specs.Event as meaning
 use Rattle.log.specs.declared.Event.{Event}
 use Rattle.log.specs.Log.{nothing}
-use Rattle.advance.specs.Numbers.{numberOf, brings, InTurn}
+use Rattle.event_numbers.specs.Numbers.{numberOf, brings, InTurn}
 
 -- the number expected behind some events, and whether an event came
 abbrev pub expectedFrom : ℕ → List Event → ℕ

@@ -31,12 +31,12 @@ use Rattle.syntax.specs.declared.Rule.{Rule}
 use Rattle.syntax.proofs.Values.{full-value}
 use Rattle.syntax.specs.Value.{formulaOf}
 use Rattle.log.specs.declared.Event.{Event}
-use Rattle.log.specs.Legal.{seenOf, legalOf}
+use Rattle.log.specs.Legal.{seenOf, legalOf, eventOf}
 use Rattle.checks.specs.Checks.{inputOutcome}
 use Rattle.checks.specs.Input.{Input, input-accepted}
-use Rattle.advance.specs.declared.Monitor.{Monitor}
-use Rattle.advance.specs.Held.{modelOf, monitorOf, eventOf}
-use Rattle.advance.specs.Numbers.{numberOf, missingOf, unseen, brings, InTurn, inTurn, in-turn-says, eventOutcome}
+use Rattle.sides.specs.declared.Monitor.{Monitor}
+use Rattle.sides.specs.Held.{modelOf, monitorOf}
+use Rattle.event_numbers.specs.Numbers.{numberOf, missingOf, unseen, brings, InTurn, inTurn, in-turn-says, eventOutcome}
 use Rattle.monitor.specs.declared.Watched.{Watched}
 use Rattle.monitor.specs.Calls.{lampOf, noMonitor, watched, openCall, monitorFits, stepChecked, stepCall}
 use Rattle.monitor.proofs.Given.{event-checks, legal-is}

@@ -37,8 +37,8 @@ use Rattle.checks.specs.Input.{Input}
 use Rattle.checks.proofs.Given.{right}
 use Rattle.live.specs.LiveRight.{live-is}
 use Rattle.live.proofs.Given.{live-set-is}
-use Rattle.advance.specs.declared.Monitor.{Monitor}
-use Rattle.advance.specs.Held.{modelOf}
+use Rattle.sides.specs.declared.Monitor.{Monitor}
+use Rattle.sides.specs.Held.{modelOf}
 use Rattle.monitor.specs.Calls.{lit, checkedOf, monitorFits, lookCall}
 use Rattle.walk.specs.declared.Lengths.{Lengths}
 use Rattle.walk.specs.Legs.{Walked}

@@ -18,8 +18,8 @@ use Rattle.plant.specs.declared.Plant.{Plant}
 use Rattle.plant.specs.Table.{plantOf}
 use Rattle.syntax.specs.declared.Rule.{Rule}
 use Rattle.syntax.specs.Value.{formulaOf}
-use Rattle.advance.specs.declared.Monitor.{Monitor}
-use Rattle.advance.specs.Held.{modelOf}
+use Rattle.sides.specs.declared.Monitor.{Monitor}
+use Rattle.sides.specs.Held.{modelOf}
 use Rattle.monitor.specs.Calls.{checkedOf, monitorFits}
 use Rattle.walk.specs.declared.Lengths.{Lengths}
 use Rattle.walk.specs.Shows.{Shows}

@@ -12,7 +12,7 @@ use syntax::Rule;
 use walk::Lengths;
 ghost use mathlib.Core.Path.{_≡_};
 ghost use Rattle.model.specs.Monitor as model;
-ghost use Rattle.advance.specs.Held.{modelOf};
+ghost use Rattle.sides.specs.Held.{modelOf};
 ghost use Rattle.witness.specs.Calls.{askedOf, Answered};
 
 // How many states the stem and the loop have, or why there is none.

@@ -1,6 +1,6 @@
 -- `advance`: by whether an event came, and whether it is a restart. Assumes nothing.
 use borrow.Author.Needs.{needs}
-use Rattle.advance.specs.SidesRight.{advanced-new, advanced-next, advanced-first}
+use Rattle.sides.specs.SidesRight.{advanced-new, advanced-next, advanced-first}
 use Rattle.advance.proofs.advance.Statement.{statement}
 use Rattle.advance.proofs.advance.Tie as tie
 

@@ -4,8 +4,8 @@ use mathlib.Core.Path.{_≡_, refl}
 use native.Mathlib.Nat.{le-antisymm}
 use native.Mathlib.Omega.{arith}
 use borrow.Author.Needs.{needs}
-use Rattle.advance.specs.Sides.{caughtUpBy}
-use Rattle.advance.specs.SidesRight.{caught-more}
+use Rattle.sides.specs.Sides.{caughtUpBy}
+use Rattle.sides.specs.SidesRight.{caught-more}
 use Rattle.advance.proofs.catch_up.Statement.{statement}
 use Rattle.advance.proofs.catch_up.Tie as tie
 

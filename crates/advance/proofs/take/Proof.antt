@@ -1,6 +1,6 @@
 -- `take`: at once where nothing is missing, and else behind what is. Assumes nothing.
 use borrow.Author.Needs.{needs}
-use Rattle.advance.specs.SidesRight.{came-at-once, came-behind}
+use Rattle.sides.specs.SidesRight.{came-at-once, came-behind}
 use Rattle.advance.proofs.take.Statement.{statement}
 use Rattle.advance.proofs.take.Tie as tie
 

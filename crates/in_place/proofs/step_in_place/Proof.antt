@@ -58,9 +58,9 @@ use Rattle.log.proofs.Event.Laws as Ev′
 use Rattle.answers.specs.declared.Answer.{Answer}
 use Rattle.answers.proofs.Answer as An
 use Rattle.answers.proofs.Answer.Laws as An′
-use Rattle.advance.specs.declared.Monitor.{Monitor}
-use Rattle.advance.proofs.Monitor as Mo
-use Rattle.advance.proofs.Monitor.Laws as Mo′
+use Rattle.sides.specs.declared.Monitor.{Monitor}
+use Rattle.sides.proofs.Monitor as Mo
+use Rattle.sides.proofs.Monitor.Laws as Mo′
 use Rattle.monitor.specs.declared.Watched.{Watched}
 use Rattle.monitor.proofs.Watched as Wa
 use Rattle.monitor.proofs.Watched.Laws as Wa′

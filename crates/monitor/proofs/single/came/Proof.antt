@@ -1,6 +1,6 @@
 -- `came`: by whether an event came, and whether it is a restart. Assumes nothing.
 use borrow.Author.Needs.{needs}
-use Rattle.advance.specs.SidesRight.{came-new, came-next, came-first}
+use Rattle.sides.specs.SidesRight.{came-new, came-next, came-first}
 use Rattle.monitor.proofs.single.came.Statement.{statement}
 use Rattle.monitor.proofs.single.came.Tie as tie
 

@@ -1,7 +1,7 @@
 -- `stepped`: where the event leads, from a monitor that expects the number behind it. Assumes nothing.
 use mathlib.Core.Path.{_∙_}
 use borrow.Author.Needs.{needs}
-use Rattle.advance.specs.Numbers.{first-none}
+use Rattle.event_numbers.specs.Numbers.{first-none}
 use Rattle.monitor.proofs.single.stepped.Statement.{statement}
 use Rattle.monitor.proofs.single.stepped.Tie as tie
 

@@ -11,7 +11,7 @@ use lib.Dec.{ltb}
 use lib.ListN.{getD}
 use Rattle.words.specs.Below.{listBelow, filled}
 use Rattle.words.specs.Lists.{filled-turn, filled-all, list-at, list-of, length-list}
-use Rattle.advance.specs.declared.Monitor.{Monitor}
+use Rattle.sides.specs.declared.Monitor.{Monitor}
 use Rattle.slate.specs.Box.{monitorWord, changedWord, monitorWords, splicedWord, withMonitor}
 use Rattle.slate.proofs.writing.with_monitor.Statement.{statement}
 use Rattle.slate.proofs.writing.with_monitor.Tie as tie

@@ -2,7 +2,7 @@
 use borrow.Author.Needs.{needs}
 use native.Mathlib.Omega.{arith}
 use Rattle.syntax.proofs.Held.{full}
-use Rattle.advance.specs.declared.Monitor.{Monitor}
+use Rattle.sides.specs.declared.Monitor.{Monitor}
 use Rattle.course.specs.Course.{courseOf}
 use Rattle.text.specs.Number.{widthOf}
 use Rattle.log.specs.Read.{bytesIn}
