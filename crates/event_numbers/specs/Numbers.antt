@@ -43,6 +43,10 @@ unseen = record { seen = nothing; new = false }
 abbrev pub brings : Bool → ℕ → Event → List meaning.Event
 brings seen expected e = replicate (missingOf seen expected (numberOf (e .num) expected)) unseen ++ eventOf e ∷ []
 
+-- where 3 is expected and 5 comes, two are put in, before it
+pub two-missing : (e : Event) → e .num ≡ Given 5 → brings true 3 e ≡ unseen ∷ unseen ∷ eventOf e ∷ []
+two-missing e is = rw is refl
+
 -- ---- check 16
 
 -- an event may have number n: numbers are left, n is one, and behind another event it goes neither back nor over more than 16
