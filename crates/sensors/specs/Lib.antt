@@ -1,4 +1,3 @@
 pub mod Sensors
 mod Fewer
 pub mod Better
-pub mod Needed

@@ -50,7 +50,7 @@ use Rattle.log.specs.Legal.{legalOf}
 use Rattle.log.specs.Lead.{leading}
 use Rattle.log.specs.Read as log-read
 use Rattle.event_numbers.specs.Numbers.{inTurn, eventOutcome}
-use Rattle.promises.specs.Marked.{bytes, lines, Row}
+use Rattle.marked.specs.Marked.{bytes, lines, Row}
 use Rattle.promises.specs.ThreeTexts.{shownFor, Said, saidBy, modelShown, texts-shown}
 
 -- ---- texts
