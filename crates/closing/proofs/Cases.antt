@@ -30,8 +30,8 @@ use Rattle.closing.specs.declared.ClosingVerdict.{ClosingVerdict}
 use Rattle.closing.specs.declared.ClosingVerdict.the-variants.{Inconclusive, PresumablyTrue, PresumablyFalse}
 use Rattle.closing.specs.declared.Closed.{Closed}
 use Rattle.closing.specs.declared.Closed.the-variants.{At, Refused}
-use Rattle.closing.specs.declared.stretch.Found.{Found}
-use Rattle.closing.specs.Stretch.{foundOf}
+use Rattle.last_stretch.specs.declared.Found.{Found}
+use Rattle.last_stretch.specs.Stretch.{foundOf}
 use Rattle.closing.specs.Closing.{ofVerdict, presumedBy, presumedOf, secondOf, closedAt, stoppedAt, closedWent, closedIn, closedFrom, closedOf}
 
 -- ---- what is presumed

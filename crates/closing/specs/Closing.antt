@@ -26,8 +26,8 @@ use Rattle.closing.specs.declared.ClosingVerdict.{ClosingVerdict}
 use Rattle.closing.specs.declared.ClosingVerdict.the-variants.{Inconclusive, True, False, OutOfModel, PresumablyTrue, PresumablyFalse}
 use Rattle.closing.specs.declared.Closed.{Closed}
 use Rattle.closing.specs.declared.Closed.the-variants.{At, Stopped, Refused}
-use Rattle.closing.specs.declared.stretch.Found.{Found}
-use Rattle.closing.specs.Stretch.{foundOf}
+use Rattle.last_stretch.specs.declared.Found.{Found}
+use Rattle.last_stretch.specs.Stretch.{foundOf}
 
 -- 01's numbers, and 02's two
 abbrev pub closingNumber : ClosingVerdict → ℕ

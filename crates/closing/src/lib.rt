@@ -1,19 +1,17 @@
 // A day's end: the last verdict of a whole log, and by edition 2, where that is inconclusive, what finite-trace logic presumes of the rule.
-pub mod stretch;
-
 use advance::lamp;
 use answers::Kind;
 use answers::Outcome;
 use answers::Refusal;
 use answers::Verdict;
 use controller::Stop;
+use last_stretch::look_back;
 use opened::Opened;
 use opened::open_texts;
 use pairs::Pairs;
 use plant::Plant;
 use plant::Table;
 use sides::Monitor;
-use stretch::look_back;
 use syntax::Rule;
 ghost use mathlib.Core.Path.{_≡_};
 ghost use Prim.Native.Nat.{_≤_};

@@ -17,7 +17,7 @@ use Rattle.log.specs.Legal.{seenOf, eventOf}
 use Rattle.log.specs.Log.{nothing}
 use Rattle.event_numbers.specs.Numbers.{numberOf, missingOf, unseen, brings}
 use Rattle.watching.specs.Filled.{expectedFrom, seenFrom, filled, expectedAt, numberAt, filled-more}
-use Rattle.closing.specs.Stretch.{begins}
+use Rattle.last_stretch.specs.Stretch.{begins}
 use Rattle.closing_right.specs.DayEnd.{stretch}
 
 -- ---- what one line more makes of the events since the last restart

@@ -40,8 +40,8 @@ use Rattle.within.specs.Turn.{aheadFrom, stackFrom}
 use Rattle.within.specs.Right.{within-told}
 use Rattle.closing.specs.declared.ClosingVerdict.{ClosingVerdict}
 use Rattle.closing.specs.declared.ClosingVerdict.the-variants.{Inconclusive, PresumablyTrue, PresumablyFalse}
-use Rattle.closing.specs.declared.stretch.Found.{Found}
-use Rattle.closing.specs.Stretch.{joins, begins, furtherOf, backFrom, stretchOf, foundOf}
+use Rattle.last_stretch.specs.declared.Found.{Found}
+use Rattle.last_stretch.specs.Stretch.{joins, begins, furtherOf, backFrom, stretchOf, foundOf}
 use Rattle.closing.specs.Closing.{closingNumber, presumedBy, presumedOf}
 use Rattle.closing_right.specs.DayEnd.{stretch, Ready, Met, Presumed}
 use Rattle.closing_right.specs.Lines.{stretchAt, gap, NoGap, AreLines, begins-low, begins-some, are-lines, no-gap}

@@ -6,4 +6,3 @@ pub mod Numbered
 pub mod Bytes
 pub mod Reader
 pub mod Scan
-mod Examples

@@ -9,8 +9,8 @@ use Rattle.log.specs.declared.Num.{Num}
 use Rattle.log.specs.declared.Num.the-variants.{Expected, Given}
 use Rattle.within.specs.Turn.{guessesOf, stackAfter, carriesAfter}
 use Rattle.within.specs.Props.{propsOf, seesAll}
-use Rattle.closing.specs.declared.stretch.Back.{Back}
-use Rattle.closing.specs.declared.stretch.Found.{Found}
+use Rattle.last_stretch.specs.declared.Back.{Back}
+use Rattle.last_stretch.specs.declared.Found.{Found}
 
 -- no number is missing between an event and the one behind it; without numbers none is
 abbrev pub joinsAt : ℕ → Num → Bool

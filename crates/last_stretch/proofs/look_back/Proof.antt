@@ -6,9 +6,9 @@ use Prim.Native.Nat.{ℕ, _/_}
 use lib.ListN.{length}
 use Rattle.text.specs.Number.{widthOf}
 use Rattle.log.specs.Read.{eventAt, wholeLines}
-use Rattle.closing.proofs.Turns.{Looked, starts, goes-back, going-on, found, found-in}
-use Rattle.closing.proofs.stretch.look_back.Statement.{statement}
-use Rattle.closing.proofs.stretch.look_back.Tie as tie
+use Rattle.last_stretch.proofs.Turns.{Looked, starts, goes-back, going-on, found, found-in}
+use Rattle.last_stretch.proofs.look_back.Statement.{statement}
+use Rattle.last_stretch.proofs.look_back.Tie as tie
 
 abbrev Inv-loop : tie.InvT-loop
 Inv-loop rule log props used lines back₀ line₀ back line = (lines ≡ wholeLines (widthOf props) log) × Looked rule used (eventAt (widthOf props) log) lines back line

@@ -1,8 +1,8 @@
 -- `stretch::behind_last`: what the nodes hand on behind the last event. Assumes nothing.
 use borrow.Author.Needs.{needs}
 use mathlib.Core.Path.{refl}
-use Rattle.closing.proofs.stretch.behind_last.Statement.{statement}
-use Rattle.closing.proofs.stretch.behind_last.Tie as tie
+use Rattle.last_stretch.proofs.behind_last.Statement.{statement}
+use Rattle.last_stretch.proofs.behind_last.Tie as tie
 
 returns : tie.Need-returns
 returns c = rw (c .guesses .ensures) refl

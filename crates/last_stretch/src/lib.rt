@@ -12,7 +12,7 @@ ghost use mathlib.Core.Path.{_≡_};
 ghost use Prim.Native.Nat.{_≤_};
 ghost use Rattle.text.specs.Number.{widthOf};
 ghost use Rattle.log.specs.Read.{eventAt, wholeLines};
-ghost use Rattle.closing.specs.Stretch.{joinsAt, joins, behindLast, furtherOf, foundOf};
+ghost use Rattle.last_stretch.specs.Stretch.{joinsAt, joins, behindLast, furtherOf, foundOf};
 
 // What the lines from one on tell.
 pub struct Back {

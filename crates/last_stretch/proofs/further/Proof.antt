@@ -1,9 +1,9 @@
 -- `stretch::further`: from its calls. Assumes nothing.
 use borrow.Author.Needs.{needs}
 use mathlib.Core.Path.{refl}
-use Rattle.closing.specs.Stretch.{furtherOf}
-use Rattle.closing.proofs.stretch.further.Statement.{statement}
-use Rattle.closing.proofs.stretch.further.Tie as tie
+use Rattle.last_stretch.specs.Stretch.{furtherOf}
+use Rattle.last_stretch.proofs.further.Statement.{statement}
+use Rattle.last_stretch.proofs.further.Tie as tie
 
 returns : tie.Need-returns
 unfolding furtherOf

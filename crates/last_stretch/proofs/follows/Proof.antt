@@ -1,7 +1,7 @@
 -- `stretch::follows`: by whether the earlier event has a number. Assumes nothing.
 use borrow.Author.Needs.{needs}
-use Rattle.closing.proofs.stretch.follows.Statement.{statement}
-use Rattle.closing.proofs.stretch.follows.Tie as tie
+use Rattle.last_stretch.proofs.follows.Statement.{statement}
+use Rattle.last_stretch.proofs.follows.Tie as tie
 
 returns-2 : tie.Need-returns-2
 returns-2 c = rw (c .before .before .earlier .given .1) (c .is-next .ensures)

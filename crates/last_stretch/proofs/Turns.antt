@@ -10,9 +10,9 @@ use Rattle.words.specs.Truth.{and-says}
 use Rattle.syntax.specs.declared.Rule.{Rule}
 use Rattle.log.specs.declared.Event.{Event}
 use Rattle.within.specs.Props.{propsOf}
-use Rattle.closing.specs.declared.stretch.Back.{Back}
-use Rattle.closing.specs.declared.stretch.Found.{Found}
-use Rattle.closing.specs.Stretch.{begins, behindLast, furtherOf, backFrom, stretchOf, foundIn, foundOf}
+use Rattle.last_stretch.specs.declared.Back.{Back}
+use Rattle.last_stretch.specs.declared.Found.{Found}
+use Rattle.last_stretch.specs.Stretch.{begins, behindLast, furtherOf, backFrom, stretchOf, foundIn, foundOf}
 
 module _ (rule : Rule) (used : ℕ) (event : ℕ → Event) (n : ℕ) where
   -- the lines from `line` on were looked at, and the stretch begins there or before

@@ -1,0 +1,1 @@
+// The worked examples of the grammar and of its places, computed: theorems only, in specs/.
