@@ -1,6 +1,4 @@
 // The monitor: opened, looked at, stepped, by value. Here are the checks and the calls; how it moves is in advance.
-mod single;
-
 use answers::Answer;
 use answers::Kind;
 use answers::Outcome;
@@ -76,7 +74,7 @@ pub fn open(
             monitor: Monitor::NONE,
         },
         Outcome::Accepted => {
-            let monitor = single::opened(plant.start, label, rule, live);
+            let monitor = single_event::opened(plant.start, label, rule, live);
             Watched {
                 answer: lamp(monitor),
                 monitor,
@@ -166,7 +164,7 @@ pub fn step(
             monitor,
         },
         Outcome::Accepted => {
-            let stepped = single::stepped(label, next, rule, live, monitor, event);
+            let stepped = single_event::stepped(label, next, rule, live, monitor, event);
             Watched {
                 answer: lamp(stepped),
                 monitor: stepped,

@@ -1,8 +1,8 @@
 -- `came`: by whether an event came, and whether it is a restart. Assumes nothing.
 use borrow.Author.Needs.{needs}
 use Rattle.sides.specs.SidesRight.{came-new, came-next, came-first}
-use Rattle.monitor.proofs.single.came.Statement.{statement}
-use Rattle.monitor.proofs.single.came.Tie as tie
+use Rattle.single_event.proofs.came.Statement.{statement}
+use Rattle.single_event.proofs.came.Tie as tie
 
 returns : tie.Need-returns
 returns c = came-new _ _ _ _ _ _ _ _ _ _ (c .before .before .before .agreeing .ensures) (c .before .before .if1 .taken) (c .before .if2 .taken) (c .restarted .ensures)

@@ -1,8 +1,8 @@
 -- `restarted`: by what a restart asks. Assumes nothing.
 use borrow.Author.Needs.{needs}
 use Rattle.ways.specs.Ways.{few-ways}
-use Rattle.monitor.proofs.single.restarted.Statement.{statement}
-use Rattle.monitor.proofs.single.restarted.Tie as tie
+use Rattle.single_event.proofs.restarted.Statement.{statement}
+use Rattle.single_event.proofs.restarted.Tie as tie
 
 catch-up-requires : tie.Need-catch-up-requires
 catch-up-requires c κs =

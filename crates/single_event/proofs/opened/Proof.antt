@@ -1,8 +1,8 @@
 -- `opened`: by where the rule holds. Assumes nothing.
 use borrow.Author.Needs.{needs}
 use Rattle.ways.specs.Ways.{waysOf}
-use Rattle.monitor.proofs.single.opened.Statement.{statement}
-use Rattle.monitor.proofs.single.opened.Tie as tie
+use Rattle.single_event.proofs.opened.Statement.{statement}
+use Rattle.single_event.proofs.opened.Tie as tie
 
 returns : tie.Need-returns
 unfolding waysOf

@@ -1,8 +1,8 @@
 -- `moved`: by what a move asks. Assumes nothing.
 use borrow.Author.Needs.{needs}
 use Rattle.ways.specs.Ways.{few-ways}
-use Rattle.monitor.proofs.single.moved.Statement.{statement}
-use Rattle.monitor.proofs.single.moved.Tie as tie
+use Rattle.single_event.proofs.moved.Statement.{statement}
+use Rattle.single_event.proofs.moved.Tie as tie
 
 catch-up-requires : tie.Need-catch-up-requires
 catch-up-requires c κs =

@@ -4,7 +4,6 @@ use event_numbers::missing;
 use event_numbers::number_of;
 use log::Event;
 use pairs::Pairs;
-use sides;
 use sides::Monitor;
 use sides::opening;
 use syntax::Rule;

@@ -2,8 +2,8 @@
 use mathlib.Core.Path.{_∙_}
 use borrow.Author.Needs.{needs}
 use Rattle.event_numbers.specs.Numbers.{first-none}
-use Rattle.monitor.proofs.single.stepped.Statement.{statement}
-use Rattle.monitor.proofs.single.stepped.Tie as tie
+use Rattle.single_event.proofs.stepped.Statement.{statement}
+use Rattle.single_event.proofs.stepped.Tie as tie
 
 came-requires : tie.Need-came-requires
 came-requires c κs = (c .before .before .before .before .pre .0, λ first. c .missing .ensures ∙ first-none _ _ _ first)
