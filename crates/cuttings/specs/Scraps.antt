@@ -32,6 +32,11 @@ pub record Scrap : Type 0 where
   pub bytes : List ℕ
   pub room : ℕ
 
+-- the bytes joined
+unfoldable pub text : List Scrap → List ℕ
+text [] = []
+text (s ∷ ss) = s .bytes ++ text ss
+
 -- what is kept is read back
 pub ear-back : (w : ℕ) (step : Monitor → Event → Watched) → w ≤ 4 → (n : ℕ) (e : Ear) → Sound w step n e → earOf (radioOf e) ≡ e
 unfolding radioOf
@@ -49,27 +54,22 @@ module _ (p : Plant) (fair label next : List ℕ) (rule : Rule) (live : Pairs) w
   call r s = takeCall p fair label next rule live r (s .bytes) (s .room)
 
   -- the checks pass, or the answer is the refusal that stands: no scrap is refused for itself
-  pub Fine : Radio → Scrap → Type 0
+  unfoldable pub Fine : Radio → Scrap → Type 0
   Fine r s = takeOutcome p fair label next rule live r (s .bytes) (s .room) ≡ r .standing
 
   -- each call from what the one before left
-  pub after : Radio → List Scrap → Radio
+  unfoldable pub after : Radio → List Scrap → Radio
   after r [] = r
   after r (s ∷ ss) = after (call r s .taken .radio) ss
 
   -- the verdicts that they write, one behind the other
-  pub said : Radio → List Scrap → List ℕ
+  unfoldable pub said : Radio → List Scrap → List ℕ
   said r [] = []
   said r (s ∷ ss) = call r s .verdicts ++ said (call r s .taken .radio) ss
 
-  pub AllFine : Radio → List Scrap → Type 0
+  unfoldable pub AllFine : Radio → List Scrap → Type 0
   AllFine r [] = Unit {0}
   AllFine r (s ∷ ss) = Fine r s × AllFine (call r s .taken .radio) ss
-
-  -- the bytes joined
-  pub text : List Scrap → List ℕ
-  text [] = []
-  text (s ∷ ss) = s .bytes ++ text ss
 
   -- one call is its bytes
   one : (r : Radio) (s : Scrap) → Fine r s → (n : ℕ) → Sound w (stepCall p fair label next rule live) n (earOf r) → (earOf (call r s .taken .radio) ≡ all (heardBy r []) (s .bytes) .ear) × (call r s .verdicts ≡ all (heardBy r []) (s .bytes) .verdicts)
