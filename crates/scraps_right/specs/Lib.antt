@@ -1,0 +1,11 @@
+pub mod Claims
+pub mod Front
+pub mod Lines
+pub mod Broken
+pub mod Texts
+pub mod Fine
+pub mod Full
+pub mod Promises
+pub mod Written
+pub mod FromTexts
+pub mod OneAnswer
