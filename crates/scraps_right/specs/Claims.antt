@@ -1,4 +1,4 @@
--- A LOG IN SCRAPS, BESIDE THE WHOLE LOG: what `take` and `finish` (scraps/src) answer and write over all scraps of a log, however it is cut. Six claims stand at the end, and
+-- A LOG IN SCRAPS, BESIDE THE WHOLE LOG: what `take` and `finish` (scraps/src) answer and write over all scraps of a log, however it is cut. Seven claims stand at the end, and
 -- Promises proves them; this page has no proof, so what it takes from other files is what must be believed.
 -- `takeCall`, `finishCall` (scraps/specs/Calls) and `heardOf` (controller/specs/Whole) are by the contracts of `take`, `finish` and `watch_log` what these give; `after`, `said` and `text`
 -- (cuttings/specs/Scraps) are the calls of `take` one after the other, the verdicts that they write, and the bytes joined.
@@ -116,6 +116,12 @@ countOf (Stopped s) = s .event
 countOf (Refused r) = 0
 
 -- ---- the claims
+
+-- two cuttings of one log write the same verdicts, and leave the same radio
+abbrev pub TwoCuttings : Type 0
+TwoCuttings = (p : Plant) (fair label next : List ℕ) (rule : Rule) (live : Pairs) (m : Monitor) → length (rule .nodes) ≡ 32 → Fitting p fair label next rule live m → (ss ts : List Scrap) → Roomy ss
+    → Roomy ts → text ss ≡ text ts → length (text ss) ≤ longest
+    → (said p fair label next rule live (fresh m) ss ≡ said p fair label next rule live (fresh m) ts) × (after p fair label next rule live (fresh m) ss ≡ after p fair label next rule live (fresh m) ts)
 
 -- scraps that have room for their verdicts, of a log that is not too long, for a table, a rule, a live set and a monitor that fit: the log line by line
 abbrev pub EveryCutting : Type 0

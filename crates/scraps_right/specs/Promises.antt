@@ -36,10 +36,11 @@ use Rattle.controller.specs.declared.LogAnswer.the-variants.{Refused}
 use Rattle.controller.specs.Whole.{Heard, logChecked, endAt, heardBy, heardIn, heardOf}
 use Rattle.radio.specs.declared.Radio.{Radio}
 use Rattle.radio.specs.Radio as radio
-use Rattle.radio.specs.Kept.{radioOf}
+use Rattle.radio.specs.Radio.{hearAll}
+use Rattle.radio.specs.Kept.{radioOf, heardBy as heardFrom}
 use Rattle.scraps.specs.Calls.{longest, linesIn, heardAnswer, Took, keptOutcome, takeOutcome, takeCall, endOutcome, finishCall}
 use Rattle.cuttings.specs.Scraps.{Scrap, Fine, after, said, text, any-cutting}
-use Rattle.scraps_right.specs.Claims.{fresh, Roomy, linesTo, linesOf, placedAt, LineByLine, afterAll, saidByAll, endOfAll, stopOr, countOf, EveryCutting, EachScrap, Sticks, AsWholeLog, AsLinesBefore}
+use Rattle.scraps_right.specs.Claims.{fresh, Roomy, linesTo, linesOf, placedAt, LineByLine, afterAll, saidByAll, endOfAll, stopOr, countOf, TwoCuttings, EveryCutting, EachScrap, Sticks, AsWholeLog, AsLinesBefore}
 use Rattle.scraps_right.specs.Texts.{endOf, lines-read, lines-start, text-heard}
 use Rattle.scraps_right.specs.Full.{opened-full}
 use Rattle.scraps_right.specs.Fine.{good-fresh, kept-fine, take-fine, end-fine, all-good}
@@ -60,6 +61,18 @@ still p fair label next rule live x e r = by (stepChecked p fair label next rule
     by (Outcomes.Refused y) k new e = refl
 
 -- ---- EVERY CUTTING
+
+pub two-cuttings : TwoCuttings
+two-cuttings p fair label next rule live m full g ss ts room room′ same few =
+    let start = good-fresh p fair label next rule live m (g .held) in
+    let (fine, last) = all-good p fair label next rule live full (g .input) (g .lives) ss start room (omega arith) in
+    let (fine′, last′) = all-good p fair label next rule live full (g .input) (g .lives) ts start room′ (omega (arith, ap length same)) in
+    let (ear, verdicts) = any-cutting p fair label next rule live ss (fresh m) 0 (start .sound) fine in
+    let (ear′, verdicts′) = any-cutting p fair label next rule live ts (fresh m) 0 (start .sound) fine′ in
+    let heard = ap (hearAll (widthOf (p .props)) (stepCall p fair label next rule live) (heardFrom (fresh m) [])) same in (
+      verdicts ∙ ap (λ (h : radio.Heard). h .verdicts) heard ∙ sym verdicts′,
+      last .clean ∙ ap radioOf (ear ∙ ap (λ (h : radio.Heard). h .ear) heard ∙ sym ear′) ∙ sym (last′ .clean),
+    )
 
 pub every-cutting : EveryCutting
 every-cutting p fair label next rule live m full g ss room few =
