@@ -24,7 +24,7 @@ use Rattle.text.specs.LinesRead.{Fit}
 use Rattle.log.specs.declared.Event.{Event}
 use Rattle.log.specs.Line.{line, lineBytes, line-fixed}
 use Rattle.log.specs.Read.{isNumbered, bytesIn, eventAt}
-use Rattle.advance.specs.declared.Monitor.{Monitor}
+use Rattle.sides.specs.declared.Monitor.{Monitor}
 use Rattle.monitor.specs.declared.Watched.{Watched}
 use Rattle.course.specs.Course.{Course, takes, numberIn, goOn, courseTo, verdictBytes}
 use Rattle.radio.specs.declared.Form.{Form}

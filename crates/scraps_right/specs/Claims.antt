@@ -21,7 +21,7 @@ use Rattle.syntax.specs.declared.Rule.{Rule}
 use Rattle.text.specs.Number.{widthOf}
 use Rattle.text.specs.Lines.{lineStart}
 use Rattle.log.specs.Read.{bytesIn, logRead, wholeLines}
-use Rattle.advance.specs.declared.Monitor.{Monitor}
+use Rattle.sides.specs.declared.Monitor.{Monitor}
 use Rattle.course.specs.Laid.{laid}
 use Rattle.course.specs.Course.{Course, courseOf, verdictBytes, Fitting}
 use Rattle.opened.specs.declared.Opened.{Opened}

@@ -25,7 +25,7 @@ use Rattle.log.specs.Line.{line-fixed}
 use Rattle.log.specs.Read.{isNumbered, bytesIn}
 use Rattle.checks.specs.Checks.{inputOutcome}
 use Rattle.checks.specs.Input.{input-accepted}
-use Rattle.advance.specs.declared.Monitor.{Monitor}
+use Rattle.sides.specs.declared.Monitor.{Monitor}
 use Rattle.monitor.specs.declared.Watched.{Watched}
 use Rattle.monitor.specs.Calls.{table, formula, monitorFits, stepCall}
 use Rattle.watching.specs.Watching.{T, f, Held}

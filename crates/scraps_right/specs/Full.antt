@@ -8,7 +8,7 @@ use Rattle.answers.specs.declared.Outcome.the-variants.{Accepted, Refused}
 use Rattle.answers.specs.Chain.{refused-none}
 use Rattle.plant.specs.Read.{tableRead}
 use Rattle.syntax.proofs.Values.{full-value}
-use Rattle.rule.specs.Reading.{ruleRead}
+use Rattle.rule_text.specs.Reading.{ruleRead}
 use Rattle.rule.specs.Promises as rules
 use Rattle.live.specs.Prepare.{preparedOf}
 use Rattle.monitor.specs.Calls.{openCall}

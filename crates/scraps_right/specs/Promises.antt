@@ -24,7 +24,7 @@ use Rattle.text.specs.Number.{widthOf}
 use Rattle.text.specs.Lines.{lineStart}
 use Rattle.log.specs.declared.Event.{Event}
 use Rattle.log.specs.Read.{bytesIn, logRead, wholeLines, eventAt}
-use Rattle.advance.specs.declared.Monitor.{Monitor}
+use Rattle.sides.specs.declared.Monitor.{Monitor}
 use Rattle.monitor.specs.Calls.{watched, stepChecked, stepCall}
 use Rattle.course.specs.Course.{Course, courseOf, verdictBytes}
 use Rattle.course.specs.Lamps.{counted}

@@ -27,7 +27,7 @@ use Rattle.log.specs.declared.Event.{Event}
 use Rattle.log.specs.declared.LogRead.{LogRead}
 use Rattle.log.specs.Line.{line, lineBytes, line-fixed}
 use Rattle.log.specs.Read.{isNumbered, bytesIn, refusedLog, acceptedLog, readAs, logRead, wholeLines, eventAs, eventAt}
-use Rattle.advance.specs.declared.Monitor.{Monitor}
+use Rattle.sides.specs.declared.Monitor.{Monitor}
 use Rattle.monitor.specs.declared.Watched.{Watched}
 use Rattle.course.specs.Course.{Course, goOn, courseTo, verdictBytes}
 use Rattle.radio.specs.declared.Form.the-variants.{Unknown}

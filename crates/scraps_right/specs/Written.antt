@@ -33,7 +33,7 @@ use Rattle.log.specs.declared.Event.{Event}
 use Rattle.log.specs.Lead.{numSlots, leading}
 use Rattle.log.specs.Line.{seeKey, valKey, newKey, line, line-fixed}
 use Rattle.log.specs.Read.{isNumbered, bytesIn, eventAt}
-use Rattle.advance.specs.declared.Monitor.{Monitor}
+use Rattle.sides.specs.declared.Monitor.{Monitor}
 use Rattle.monitor.specs.declared.Watched.{Watched}
 use Rattle.monitor.specs.Calls.{stepCall}
 use Rattle.course.specs.Laid.{laid-over}
