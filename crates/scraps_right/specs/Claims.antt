@@ -1,4 +1,4 @@
--- A LOG IN SCRAPS, BESIDE THE WHOLE LOG: what `take` and `finish` (scraps/src) answer and write over all scraps of a log, however it is cut. Seven claims stand at the end, and
+-- A LOG IN SCRAPS, BESIDE THE WHOLE LOG: what `take` and `finish` (scraps/src) answer and write over all scraps of a log, however it is cut. Eight claims stand at the end, and
 -- Promises proves them; this page has no proof, so what it takes from other files is what must be believed.
 -- `takeCall`, `finishCall` (scraps/specs/Calls) and `heardOf` (controller/specs/Whole) are by the contracts of `take`, `finish` and `watch_log` what these give; `after`, `said` and `text`
 -- (cuttings/specs/Scraps) are the calls of `take` one after the other, the verdicts that they write, and the bytes joined.
@@ -6,16 +6,17 @@ use Prim.Native.Nat.{ℕ, _/_, _≤_}
 use mathlib.Core.Path.{_≡_}
 use mathlib.Core.Bool.{cond}
 use mathlib.Core.List.{List, [], _∷_, _++_}
-use lib.Dec.{ltb}
+use lib.Dec.{ltb, leb}
 use lib.ListN.{length, take, replicate}
 use Rattle.words.specs.Over.{over}
 use Rattle.pairs.specs.declared.Pairs.{Pairs}
+use Rattle.answers.specs.declared.Kind.the-variants.{Room, LogLength}
 use Rattle.answers.specs.declared.Refusal.{Refusal}
 use Rattle.answers.specs.declared.Outcome.{Outcome}
 use Rattle.answers.specs.declared.Outcome.the-variants as Outcomes
 use Rattle.answers.specs.declared.Outcome.the-variants.{Accepted}
 use Rattle.answers.specs.Paper.{refusedAt}
-use Rattle.answers.specs.Chain.{andThen}
+use Rattle.answers.specs.Chain.{andThen, unless}
 use Rattle.plant.specs.declared.Plant.{Plant}
 use Rattle.syntax.specs.declared.Rule.{Rule}
 use Rattle.text.specs.Number.{widthOf}
@@ -142,6 +143,14 @@ EachScrap = (p : Plant) (fair label next : List ℕ) (rule : Rule) (live : Pairs
     → let took = takeCall p fair label next rule live (after p fair label next rule live (fresh m) ss) (s .bytes) (s .room) in let log = text (ss ++ s ∷ []) in
     (took .taken .answer ≡ heardAnswer (andThen (eventStop p fair label next rule live m log) (soFar (length log) (logRead (widthOf (p .props)) log .outcome))) (length (took .verdicts)))
     × (verdictBytes (courseBy p fair label next rule live m log .lamps) ≡ verdictBytes (courseBy p fair label next rule live m (text ss) .lamps) ++ took .verdicts)
+
+-- a scrap that is refused for itself, where nothing was refused before it: 11 exactly if it has more line ends than its buffer bytes, and else 24 exactly if the log would be too long.
+-- Nothing is taken, and nothing is written
+abbrev pub TakesNothing : Type 0
+TakesNothing = (p : Plant) (fair label next : List ℕ) (rule : Rule) (live : Pairs) (m : Monitor) → length (rule .nodes) ≡ 32 → Fitting p fair label next rule live m → (ss : List Scrap) → Roomy ss
+    → length (text ss) ≤ longest → let r = after p fair label next rule live (fresh m) ss in r .standing ≡ Accepted → (s : Scrap) (x : Refusal)
+    → andThen (unless (leb (linesIn (s .bytes)) (s .room)) Room) (unless (leb (length (text (ss ++ s ∷ []))) longest) LogLength) ≡ Outcomes.Refused x
+    → takeCall p fair label next rule live r (s .bytes) (s .room) ≡ record { taken = record { answer = Refused x; radio = r }; verdicts = [] }
 
 -- behind a refused event or byte any scrap at all, and the end, gets the same refusal, and nothing is taken
 abbrev pub Sticks : Type 0

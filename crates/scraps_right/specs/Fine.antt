@@ -2,9 +2,9 @@
 use Prim.{tt}
 use Prim.Native.Nat.{ℕ, _+_, _^_, _≤_, zero-le}
 use native.Mathlib.Omega.{arith}
-use mathlib.Core.Path.{_≡_, refl, sym, ap, ap₂, subst}
+use mathlib.Core.Path.{_≡_, refl, sym, ap, ap₂, subst, _∙_}
 use mathlib.Core.Bool.{Bool, true, false, cond, _&&_}
-use mathlib.Core.List.{List, [], _∷_}
+use mathlib.Core.List.{List, [], _∷_, _++_}
 use borrow.Author.Tests.{lt-ltb, le-leb}
 use lib.Dec.{ltb, leb, eqb}
 use lib.ListN.{length, length-append}
@@ -13,16 +13,18 @@ use Rattle.pairs.specs.declared.Pairs.{Pairs}
 use Rattle.model.specs.Sets.{PairSet}
 use Rattle.model.specs.Checks.{pairsOk, pairs-says}
 use Rattle.answers.specs.declared.Kind.the-variants.{Value, LogText}
+use Rattle.answers.specs.declared.Answer.{Answer}
+use Rattle.answers.specs.declared.Answer.the-variants as Answers
 use Rattle.answers.specs.declared.Outcome.{Outcome}
 use Rattle.answers.specs.declared.Outcome.the-variants.{Accepted, Refused}
-use Rattle.answers.specs.Chain.{andThen, unless, chain-accepts, unless-accepts}
+use Rattle.answers.specs.Chain.{refused-none, andThen, unless, chain-accepts, unless-accepts}
 use Rattle.answers.specs.Paper.{refusedAt}
 use Rattle.plant.specs.declared.Plant.{Plant}
 use Rattle.syntax.specs.declared.Rule.{Rule}
 use Rattle.text.specs.Number.{widthOf, width-between}
 use Rattle.log.specs.declared.Event.{Event}
 use Rattle.log.specs.Line.{line-fixed}
-use Rattle.log.specs.Read.{isNumbered, bytesIn}
+use Rattle.log.specs.Read.{isNumbered, bytesIn, eventAt}
 use Rattle.checks.specs.Checks.{inputOutcome}
 use Rattle.checks.specs.Input.{input-accepted}
 use Rattle.sides.specs.declared.Monitor.{Monitor}
@@ -30,7 +32,7 @@ use Rattle.monitor.specs.declared.Watched.{Watched}
 use Rattle.monitor.specs.Calls.{table, formula, monitorFits, stepCall}
 use Rattle.watching.specs.Watching.{T, f, Held}
 use Rattle.radio.specs.declared.Radio.{Radio}
-use Rattle.radio.specs.Radio.{Heard, goodOf, hearAll}
+use Rattle.radio.specs.Radio.{Heard, goodOf, begins, stopped, kept, answered, byteHeard, hear, hearAll}
 use Rattle.radio.specs.Kept.{partOf, earOf, radioOf, heardBy, keptOk}
 use Rattle.radio.specs.Laws.{padded-none}
 use Rattle.radio.specs.Turning.{line-few}
@@ -44,6 +46,50 @@ use Rattle.scraps_right.specs.Texts.{endOf}
 and-accepted : (o : Outcome) → andThen o Accepted ≡ o
 and-accepted Accepted = refl
 and-accepted (Refused r) = refl
+
+-- ---- how many bytes came
+
+-- where nothing was refused, the bytes kept end where the log does
+module _ (w : ℕ) (step : Monitor → Event → Watched) where
+  Exact : ℕ → Heard → Type 0
+  Exact n h = h .ear .standing ≡ Accepted → h .ear .start + length (h .ear .part) ≡ n
+
+  exact-answered : (n : ℕ) (h : Heard) (q : List ℕ) → h .ear .start + length q ≡ n → (s : Watched) (a : Answer) → Exact n (answered h q s a)
+  unfolding Exact
+  exact-answered n h q long s (Answers.Shown l) = λ _. omega (arith, long)
+  exact-answered n h q long s (Answers.Refused r) = λ e. refused-none e
+
+  exact-byte : (n : ℕ) (h : Heard) → Exact n h → (b : ℕ) → Exact (n + 1) (hear w step h b)
+  unfolding hear Exact
+  exact-byte n h exact b = by (h .ear .standing) refl
+    where
+      q : List ℕ
+      q = h .ear .part ++ b ∷ []
+
+      s : Watched
+      s = step (h .ear .monitor) (eventAt w (h .ear .part ++ b ∷ []) 0)
+
+      long : h .ear .standing ≡ Accepted → h .ear .start + length (h .ear .part ++ b ∷ []) ≡ n + 1
+      long e = omega (arith, exact e, length-append (h .ear .part) (b ∷ []))
+
+      pick : h .ear .standing ≡ Accepted → (t u : Bool) → Exact (n + 1) (cond t (cond u (kept h q) (answered h q s (s .answer))) (stopped h (refusedAt LogText (h .ear .start + length (h .ear .part)))))
+      pick e true true = λ _. long e
+      pick e true false = exact-answered (n + 1) h q (long e) s (s .answer)
+      pick e false u = λ f. refused-none f
+
+      by : (o : Outcome) → h .ear .standing ≡ o → Exact (n + 1) (byteHeard w step o h b)
+      by Accepted e = pick e (begins w (h .ear .form) q) (ltb (length q) (bytesIn w q))
+      by (Refused r) e = λ f. refused-none (sym e ∙ f)
+
+  exact-all : (s : List ℕ) (n : ℕ) (h : Heard) → Exact n h → Exact (n + length s) (hearAll w step h s)
+  unfolding Exact
+  exact-all [] n h exact = λ e. omega (arith, exact e)
+  exact-all (b ∷ s) n h exact = λ e. omega (arith, exact-all s (n + 1) (hear w step h b) (exact-byte n h exact b) e)
+
+  pub exact-fresh : (s : List ℕ) (m : Monitor) → hearAll w step (heardBy (fresh m) []) s .ear .standing ≡ Accepted
+      → hearAll w step (heardBy (fresh m) []) s .ear .start + length (hearAll w step (heardBy (fresh m) []) s .ear .part) ≡ length s
+  unfolding Exact
+  exact-fresh s m e = omega (arith, exact-all s 0 (heardBy (fresh m) []) (λ _. refl) e)
 
 module _ (p : Plant) (fair label next : List ℕ) (rule : Rule) (live : Pairs) where
   abbrev w : ℕ

@@ -6,9 +6,11 @@ use mathlib.Core.Path.{_≡_, refl, sym, ap, ap₂, _∙_}
 use mathlib.Core.Bool.{Bool, true, false, false≢true}
 use mathlib.Core.List.{List, [], _∷_, _++_, append-nil, append-assoc}
 use borrow.Author.Tests.{le-leb}
+use lib.Dec.{leb}
 use lib.ListN.{length, length-map, length-append}
 use Rattle.pairs.specs.declared.Pairs.{Pairs}
 use Rattle.model.specs.Monitor as model
+use Rattle.answers.specs.declared.Kind.the-variants.{Room, LogLength}
 use Rattle.answers.specs.declared.Lamp.{Lamp}
 use Rattle.answers.specs.declared.Refusal.{Refusal}
 use Rattle.answers.specs.declared.Answer.{Answer}
@@ -17,7 +19,7 @@ use Rattle.answers.specs.declared.Outcome.{Outcome}
 use Rattle.answers.specs.declared.Outcome.the-variants.{Accepted}
 use Rattle.answers.specs.declared.Outcome.the-variants as Outcomes
 use Rattle.answers.specs.Paper.{numberOf}
-use Rattle.answers.specs.Chain.{andThen}
+use Rattle.answers.specs.Chain.{andThen, unless}
 use Rattle.plant.specs.declared.Plant.{Plant}
 use Rattle.syntax.specs.declared.Rule.{Rule}
 use Rattle.text.specs.Number.{widthOf}
@@ -38,12 +40,12 @@ use Rattle.radio.specs.declared.Radio.{Radio}
 use Rattle.radio.specs.Radio as radio
 use Rattle.radio.specs.Radio.{hearAll}
 use Rattle.radio.specs.Kept.{radioOf, heardBy as heardFrom}
-use Rattle.scraps.specs.Calls.{longest, linesIn, heardAnswer, Took, keptOutcome, takeOutcome, takeCall, endOutcome, finishCall}
+use Rattle.scraps.specs.Calls.{longest, linesIn, heardAnswer, Took, roomOutcome, keptOutcome, takeOutcome, takeCall, endOutcome, finishCall}
 use Rattle.cuttings.specs.Scraps.{Scrap, Fine, after, said, text, any-cutting}
-use Rattle.scraps_right.specs.Claims.{fresh, Roomy, linesTo, linesOf, placedAt, LineByLine, afterAll, saidByAll, endOfAll, stopOr, countOf, TwoCuttings, EveryCutting, EachScrap, Sticks, AsWholeLog, AsLinesBefore}
+use Rattle.scraps_right.specs.Claims.{fresh, Roomy, linesTo, linesOf, placedAt, LineByLine, afterAll, saidByAll, endOfAll, stopOr, countOf, TwoCuttings, EveryCutting, EachScrap, TakesNothing, Sticks, AsWholeLog, AsLinesBefore}
 use Rattle.scraps_right.specs.Texts.{endOf, lines-read, lines-start, text-heard}
 use Rattle.scraps_right.specs.Full.{opened-full}
-use Rattle.scraps_right.specs.Fine.{good-fresh, kept-fine, take-fine, end-fine, all-good}
+use Rattle.scraps_right.specs.Fine.{exact-fresh, good-fresh, many-kept, kept-fine, take-fine, end-fine, all-good}
 
 -- ---- a refused step leaves the monitor
 
@@ -116,6 +118,13 @@ module _ (p : Plant) (fair label next : List ℕ) (rule : Rule) (live : Pairs) w
   unfolding takeCall takeOutcome
   refused-is r s e = rw e refl
 
+  -- and one that is refused for itself by its own
+  none-is : (r : Radio) (s : Scrap) {x : Refusal} → keptOutcome p fair label next rule live r ≡ Accepted
+      → andThen (unless (leb (linesIn (s .bytes)) (s .room)) Room) (unless (leb (r .start + r .len + length (s .bytes)) longest) LogLength) ≡ Outcomes.Refused x
+      → took r s ≡ record { taken = record { answer = Refused x; radio = r }; verdicts = [] }
+  unfolding takeCall takeOutcome roomOutcome
+  none-is r s e f = rw (e, f) refl
+
 text-more : (ss : List Scrap) (s : Scrap) → text (ss ++ s ∷ []) ≡ text ss ++ s .bytes
 unfolding text
 text-more [] s = append-nil (s .bytes)
@@ -139,6 +148,20 @@ each-scrap p fair label next rule live m full g ss s room few goes =
           ∙ ap (λ (o : Outcome). heardAnswer o (length (took p fair label next rule live r s .verdicts))) (now .stands),
       sym (now .verdicts-are) ∙ said-more p fair label next rule live ss s (fresh m) ∙ ap (λ (l : List ℕ). l ++ took p fair label next rule live r s .verdicts) (then .verdicts-are),
     )
+
+pub takes-nothing : TakesNothing
+takes-nothing p fair label next rule live m full g ss room few goes s x refuses =
+    let few′ : 0 + length (text ss) ≤ longest = omega arith in
+    let start = good-fresh p fair label next rule live m (g .held) in
+    let (fine, last) = all-good p fair label next rule live full (g .input) (g .lives) ss start room few′ in
+    let (ear, verdicts) = any-cutting p fair label next rule live ss (fresh m) 0 (start .sound) fine in
+    let r = after p fair label next rule live (fresh m) ss in
+    let came : r .start + r .len ≡ length (text ss) =
+    ap (λ (k : ℕ). r .start + k) (many-kept p fair label next rule live last) ∙ ap (λ (e : radio.Ear). e .start + length (e .part)) ear
+    ∙ exact-fresh (widthOf (p .props)) (stepCall p fair label next rule live) (text ss) m (ap (λ (e : radio.Ear). e .standing) (sym ear) ∙ goes) in
+    let long : r .start + r .len + length (s .bytes) ≡ length (text (ss ++ s ∷ [])) = omega (arith, came, ap length (text-more ss s), length-append (text ss) (s .bytes)) in
+    none-is p fair label next rule live r s (kept-fine p fair label next rule live last (g .input) (g .lives) few′ ∙ goes)
+    (ap (λ (k : ℕ). andThen (unless (leb (linesIn (s .bytes)) (s .room)) Room) (unless (leb k longest) LogLength)) long ∙ refuses)
 
 pub sticks : Sticks
 unfolding finishCall
