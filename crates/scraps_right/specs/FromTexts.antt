@@ -31,9 +31,9 @@ use Rattle.front_door.specs.WholeLog.{VerdictAfter, Closes, at-end, at-event, a
 use Rattle.front_door.specs.FromLog.{whole-log-right, start, behind-rule}
 use Rattle.scraps.specs.Calls.{longest}
 use Rattle.cuttings.specs.Scraps.{Scrap, text}
-use Rattle.scraps_right.specs.Claims.{Roomy, linesOf, saidByAll, endOfAll, stopOr, countOf}
+use Rattle.scraps_right.specs.Claims.{Roomy, linesOf, saidByAll, endOfAll, GivenTexts, stopOr, countOf}
 use Rattle.scraps_right.specs.Texts.{lines-read}
-use Rattle.scraps_right.specs.Promises.{lines-alone}
+use Rattle.scraps_right.specs.Beside.{lines-alone}
 
 -- the whole lines of a log say events, and verdict n is right for the events 0 to n; the end is the refusal of the first event that is refused, as `closes` tells it, and else what is
 -- said of the log's form
@@ -50,7 +50,7 @@ pub record Heeds (t : Plant) (f : Formula) (log said : List ℕ) (end : Outcome)
 -- texts that say an accepted table and a rule, and scraps with room for their verdicts, of a log that is not too long
 abbrev pub ScrapsRight : Type 0
 ScrapsRight = (table rule : List ℕ) (t : Plant) (f : Formula) → SaysTable (bytes table) t → AcceptedTable t → SaysBare rule (t .props) f → (ss : List Scrap) → Roomy ss → length (text ss) ≤ longest
-    → Heeds t f (text ss) (saidByAll (openedOf table rule) ss) (endOfAll (openedOf table rule) ss)
+    → Heeds t f (text ss) (saidByAll table rule ss) (endOfAll table rule ss)
 
 closes-count : {t : Plant} {es : List Event} {k : ℕ} {a : LogAnswer} → Closes t es k a → countOf a ≡ k
 closes-count (at-end h) = refl
@@ -64,8 +64,8 @@ over-start a b old same e = sym (take-append-seam a _) ∙ ap₂ (λ (n : ℕ) (
 -- what the whole-log call says of the lines alone, of w digits each
 Alone : List ℕ → List ℕ → List Scrap → ℕ → ℕ → Type 0
 Alone table rule ss w buffer =
-    let o = openedOf table rule in let heard = heardOf table rule (linesOf w (text ss)) buffer in
-    (saidByAll o ss ≡ heard .bytes) × (length (saidByAll o ss) ≡ countOf (heard .answer)) × (endOfAll o ss ≡ stopOr (heard .answer) (logRead w (text ss) .outcome))
+    let heard = heardOf table rule (linesOf w (text ss)) buffer in
+    (saidByAll table rule ss ≡ heard .bytes) × (length (saidByAll table rule ss) ≡ countOf (heard .answer)) × (endOfAll table rule ss ≡ stopOr (heard .answer) (logRead w (text ss) .outcome))
 
 pub scraps-right : ScrapsRight
 unfolding Alone
@@ -81,7 +81,7 @@ scraps-right table rule t f table-says accepted rule-says ss room few = by (acce
     opened = behind-rule t accepted table table-says rule f rule-says
 
     by : ((es : List Event) × AllWritable w es × (smallOf (logSlots w es) log ≡ logText w es) × (logRead w log .lines ≡ length es) × ((k : ℕ) → eventAt w log k ≡ getD es k nothing))
-        → Heeds t f (text ss) (saidByAll (openedOf table rule) ss) (endOfAll (openedOf table rule) ss)
+        → Heeds t f (text ss) (saidByAll table rule ss) (endOfAll table rule ss)
     by (es, ok, small, lines, at) =
         let buffer : List ℕ = replicate (length es) 0 in
         let long : length buffer ≡ length es = length-replicate {A = ℕ} (length es) 0 in
@@ -89,7 +89,8 @@ scraps-right table rule t f table-says accepted rule-says ss room few = by (acce
         let watches = whole-log-right table rule log buffer t f es table-says accepted rule-says says (omega (arith, long)) in
         let many : wholeLines w log ≡ length es = ap (λ (r : LogRead). r .lines) (sym (lines-read w (text ss))) ∙ lines in
         let props : openedOf table rule .table .plant .props ≡ t .props = ap (λ (o : Opened). o .table .plant .props) opened in
-        let (said, count, ends) = subst (λ (q : ℕ). Alone table rule ss (widthOf q) (length buffer)) props (lines-alone table rule (ap (λ (o : Opened). o .outcome) opened) ss room few (length buffer) (rw props (omega (arith, many, long)))) in
+        let given : GivenTexts table rule ss = record { opened = ap (λ (o : Opened). o .outcome) opened; roomy = room; short = few } in
+        let (said, count, ends) = subst (λ (q : ℕ). Alone table rule ss (widthOf q) (length buffer)) props (lines-alone table rule ss given (length buffer) (rw props (omega (arith, many, long)))) in
         record {
           events = es;
           says = says;

@@ -6,6 +6,7 @@ pub mod Texts
 pub mod Fine
 pub mod Full
 pub mod Promises
+pub mod Beside
 pub mod Written
 pub mod FromTexts
 pub mod OneAnswer
