@@ -8,8 +8,8 @@ use Rattle.syntax.specs.declared.Op.{Op}
 use Rattle.syntax.specs.declared.Node.{Node}
 use Rattle.syntax.specs.declared.Rule.{Rule}
 use Rattle.shape.specs.Ops.{opAt}
-use Rattle.judge.specs.Unfold.{guessOf, pushedOf, valueAt, carryAt}
-use Rattle.judge.specs.Back.{back}
+use Rattle.node_value.specs.Unfold.{guessOf, pushedOf, valueAt, carryAt}
+use Rattle.node_value.specs.Back.{back}
 use Rattle.around.specs.Around.{place}
 
 -- what a node hands on at position i, the first of d up to the last

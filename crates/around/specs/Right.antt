@@ -11,8 +11,8 @@ use Rattle.meaning.specs.Formula.{Formula, Holds, size}
 use Rattle.syntax.specs.declared.Rule.{Rule}
 use Rattle.syntax.specs.Value.{ruleOf}
 use Rattle.shape.specs.Ops.{opAt}
-use Rattle.judge.specs.Unfold.{valueAt, carryAt}
-use Rattle.judge.specs.Rows.{Grown, rule-told}
+use Rattle.node_value.specs.Unfold.{valueAt, carryAt}
+use Rattle.node_value.specs.Rows.{Grown, rule-told}
 use Rattle.around.specs.Around.{place, around, Means}
 use Rattle.around.specs.Places.{place-below}
 use Rattle.around.specs.Rows.{row, rows-right}

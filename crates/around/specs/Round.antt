@@ -9,7 +9,7 @@ use native.Mathlib.Nat.{le-refl, eq-or-lt-of-le}
 use Rattle.meaning.specs.Says.{Says}
 use Rattle.words.specs.Truth.{true-or-false, says-itself, says-or, and-says}
 use Rattle.theory.specs.Until.{Until, Release, Again, until-says, release-says}
-use Rattle.judge.specs.Back.{back}
+use Rattle.node_value.specs.Back.{back}
 use Rattle.around.specs.Around.{place}
 use Rattle.around.specs.Places.{place-below, place-next, place-round, place-again}
 

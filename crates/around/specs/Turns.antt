@@ -14,8 +14,8 @@ use Rattle.meaning.specs.Bit.{bit}
 use Rattle.syntax.specs.declared.Node.{Node}
 use Rattle.syntax.specs.declared.Rule.{Rule}
 use Rattle.around.specs.Around.{place}
-use Rattle.judge.specs.Unfold.{guessOf, pushedOf, valueAt, carryAt}
-use Rattle.judge.specs.Back.{back}
+use Rattle.node_value.specs.Unfold.{guessOf, pushedOf, valueAt, carryAt}
+use Rattle.node_value.specs.Back.{back}
 use Rattle.shape.specs.Ops.{opAt}
 use Rattle.around.specs.Fill.{handedFrom, filledFrom, roundOf, stacksAfter, aroundOf}
 

@@ -2,10 +2,10 @@
 // own. Each node goes backward once round the loop, to know what the loop's first position hands on, and then over all positions.
 pub mod run;
 
-use judge::carry_at;
-use judge::guess;
-use judge::pushed;
-use judge::value_at;
+use node_value::carry_at;
+use node_value::guess;
+use node_value::pushed;
+use node_value::value_at;
 use syntax::Op;
 use syntax::Rule;
 use words::wide;

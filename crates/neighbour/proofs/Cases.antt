@@ -25,7 +25,7 @@ use Rattle.opened.specs.declared.Opened.{Opened}
 use Rattle.opened.specs.Opened.{fairIn, labelIn, nextIn, openedOf}
 use Rattle.opened.specs.Fits.{Fits}
 use Rattle.controller.specs.Whole.{courseFrom}
-use Rattle.judge.specs.Turns.{passed, failed}
+use Rattle.node_value.specs.Turns.{passed, failed}
 use Rattle.shown.specs.declared.Found.{Found}
 use Rattle.shown.specs.declared.Found.the-variants.{Correct}
 use Rattle.shown.specs.Positions.{markOf}

@@ -7,7 +7,7 @@ use mathlib.Core.List.{List}
 use lib.ListN.{length}
 use borrow.Author.Tests.{lt-ltb}
 use Rattle.words.specs.Below.{allBelow}
-use Rattle.judge.specs.Turns.{all-turn}
+use Rattle.node_value.specs.Turns.{all-turn}
 use Rattle.log.specs.declared.Event.{Event}
 use Rattle.shown.specs.Positions.{positionOf, laterOf, markOf}
 use Rattle.shown.specs.Tests.{moveAt, movesOf, agreesAt, agreeAt, agreeOf}

@@ -29,7 +29,7 @@ use Rattle.words.specs.Tests.{eq-says}
 use Rattle.words.specs.Folds.{any-says}
 use Rattle.words.specs.Unions.{bit-union}
 use Rattle.shape.specs.Ops.{opAt}
-use Rattle.judge.specs.Rows.{nodes-at}
+use Rattle.node_value.specs.Rows.{nodes-at}
 use Rattle.within.specs.Seen.{Uses}
 
 -- the proposition that a node is, as a set

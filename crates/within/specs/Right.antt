@@ -10,9 +10,9 @@ use Rattle.syntax.specs.declared.Rule.{Rule}
 use Rattle.syntax.specs.Value.{ruleOf}
 use Rattle.words.specs.Unions.{word-at}
 use Rattle.shape.specs.Ops.{opAt}
-use Rattle.judge.specs.Unfold.{guessOf, pushedOf, valueAt, carryAt}
-use Rattle.judge.specs.Back.{back}
-use Rattle.judge.specs.Rows.{handsOn, Grown, rule-told}
+use Rattle.node_value.specs.Unfold.{guessOf, pushedOf, valueAt, carryAt}
+use Rattle.node_value.specs.Back.{back}
+use Rattle.node_value.specs.Rows.{handsOn, Grown, rule-told}
 use Rattle.within.specs.Within.{HoldsWithin}
 use Rattle.within.specs.Turn.{stackAfter, aheadFrom, stackFrom}
 use Rattle.within.specs.Rows.{row, rows-right}

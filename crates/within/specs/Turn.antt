@@ -6,7 +6,7 @@ use Rattle.syntax.specs.declared.Node.{Node}
 use Rattle.syntax.specs.declared.Rule.{Rule}
 use Rattle.words.specs.Below.{wordOf}
 use Rattle.shape.specs.Ops.{opAt}
-use Rattle.judge.specs.Unfold.{guessOf, pushedOf, valueAt, carryAt}
+use Rattle.node_value.specs.Unfold.{guessOf, pushedOf, valueAt, carryAt}
 
 -- what each of the first n nodes hands on where no event lies ahead
 abbrev pub guessesOf : List Node → ℕ → ℕ

@@ -10,7 +10,7 @@ use Rattle.syntax.specs.declared.Node.{Node}
 use Rattle.words.specs.Word.{onlyOf}
 use Rattle.words.specs.Unions.{word-more}
 use Rattle.shape.specs.Ops.{opAt}
-use Rattle.judge.specs.Unfold.{pushedOf, valueAt, carryAt}
+use Rattle.node_value.specs.Unfold.{pushedOf, valueAt, carryAt}
 use Rattle.within.specs.Turn.{stackAfter, carriesAfter}
 
 module _ (nodes : List Node) (l ahead n s : ℕ) (next : Bool) (e : s ≡ stackAfter nodes l ahead n) (b : next ≡ bit ahead n) where

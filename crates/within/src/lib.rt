@@ -1,10 +1,10 @@
 // A rule judged on a finite trace, from the last event to the first, with one word of what the nodes hand on to the event before.
 pub mod seen;
 
-use judge::carry_at;
-use judge::guess;
-use judge::pushed;
-use judge::value_at;
+use node_value::carry_at;
+use node_value::guess;
+use node_value::pushed;
+use node_value::value_at;
 use syntax::Rule;
 ghost use mathlib.Core.Path.{_≡_};
 ghost use Prim.Native.Nat.{_≤_};

@@ -1,5 +1,5 @@
 -- `check_run`: by the first test that fails; what it means is `checked-means`.
-use Rattle.judge.specs.Turns.{passed, failed}
+use Rattle.node_value.specs.Turns.{passed, failed}
 use Rattle.shown.specs.Checked.{moves-loop, found-start, found-moves, found-fairness, found-agreement, found-value, found-correct}
 use Rattle.shown.specs.Right.{checked-means}
 use borrow.Author.Needs.{needs}

@@ -1,5 +1,5 @@
 -- `is_fair`: the sets passed are met.
-use Rattle.judge.specs.Turns.{all-turn}
+use Rattle.node_value.specs.Turns.{all-turn}
 use Rattle.shown.specs.Tests.{meetsOf, fairOf}
 use Rattle.words.specs.Below.{allBelow}
 use lib.ListN.{getD}

@@ -1,5 +1,5 @@
 -- `meets`: whether a position passed meets the set.
-use Rattle.judge.specs.Turns.{any-turn}
+use Rattle.node_value.specs.Turns.{any-turn}
 use Rattle.shown.specs.Tests.{meetsOf}
 use Rattle.words.specs.Below.{anyBelow}
 use Rattle.meaning.specs.Bit.{bit}

@@ -1,6 +1,6 @@
 -- `moves`: the moves passed are right.
 use borrow.Author.Tests.{le-ltb}
-use Rattle.judge.specs.Turns.{all-turn}
+use Rattle.node_value.specs.Turns.{all-turn}
 use Rattle.shown.specs.Turns.{moves-end}
 use Rattle.shown.specs.Tests.{moveAt, movesOf}
 use Rattle.words.specs.Below.{allBelow}

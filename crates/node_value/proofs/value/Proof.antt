@@ -1,7 +1,7 @@
 -- `value`: in each arm the operator is known.
 use borrow.Author.Needs.{needs}
-use Rattle.judge.proofs.value.Statement.{statement}
-use Rattle.judge.proofs.value.Tie as tie
+use Rattle.node_value.proofs.value.Statement.{statement}
+use Rattle.node_value.proofs.value.Tie as tie
 
 returns-3 : tie.Need-returns-3
 returns-3 c = rw (c .before .before .op .given .1) (c .has-prop .ensures)

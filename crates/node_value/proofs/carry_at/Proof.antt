@@ -1,11 +1,11 @@
 -- `carry_at`: by whether the node is an X.
-use Rattle.judge.specs.Unfold.{carryAt}
+use Rattle.node_value.specs.Unfold.{carryAt}
 use Rattle.shape.specs.Ops.{isStep}
 use mathlib.Core.Bool.{true, false}
 use mathlib.Core.Path.{_≡_, sym, _∙_}
 use borrow.Author.Needs.{needs}
-use Rattle.judge.proofs.carry_at.Statement.{statement}
-use Rattle.judge.proofs.carry_at.Tie as tie
+use Rattle.node_value.proofs.carry_at.Statement.{statement}
+use Rattle.node_value.proofs.carry_at.Tie as tie
 
 returns : tie.Need-returns
 unfolding carryAt

@@ -11,7 +11,7 @@ use Rattle.syntax.specs.declared.Op.{Op}
 use Rattle.syntax.specs.Postfix.{sides}
 use Rattle.words.specs.Word.{onlyOf}
 use Rattle.words.specs.Laws.{bit-or, bit-mod, bit-low, bit-half, bit-single, bit-zero}
-use Rattle.judge.specs.Unfold.{pushedOf}
+use Rattle.node_value.specs.Unfold.{pushedOf}
 
 -- a number twice as great has no member 0, and the others one place up
 twice-low : (x : ℕ) → bit (x * 2) 0 ≡ false

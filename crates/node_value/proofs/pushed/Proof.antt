@@ -1,10 +1,10 @@
 -- `pushed`: a node has two operands at most.
-use Rattle.judge.specs.Sides.{sides-few}
-use Rattle.judge.specs.Unfold.{pushedOf}
+use Rattle.node_value.specs.Sides.{sides-few}
+use Rattle.node_value.specs.Unfold.{pushedOf}
 use native.Mathlib.Omega.{arith}
 use borrow.Author.Needs.{needs}
-use Rattle.judge.proofs.pushed.Statement.{statement}
-use Rattle.judge.proofs.pushed.Tie as tie
+use Rattle.node_value.proofs.pushed.Statement.{statement}
+use Rattle.node_value.proofs.pushed.Tie as tie
 
 shr-result : tie.Need-shr-result
 shr-result c = omega (arith, c .sides-of .ensures, sides-few (c .before .args .op))

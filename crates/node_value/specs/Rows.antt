@@ -19,9 +19,9 @@ use Rattle.syntax.specs.Grammar.{Level, Side, Atom, is-false, is-true, is-prop,
 use Rattle.syntax.proofs.Values.{length-postfix}
 use Rattle.theory.specs.Each.{Numbered, numbered-append, numbered-of}
 use Rattle.shape.specs.Ops.{opAt}
-use Rattle.judge.specs.Unfold.{valueOf, carryOf, pushedOf}
-use Rattle.judge.specs.Back.{back}
-use Rattle.judge.specs.Stack.{push-top, push-rest}
+use Rattle.node_value.specs.Unfold.{valueOf, carryOf, pushedOf}
+use Rattle.node_value.specs.Back.{back}
+use Rattle.node_value.specs.Stack.{push-top, push-rest}
 
 -- the operator o is node k
 abbrev Is : List Node → Op → ℕ → Type 0

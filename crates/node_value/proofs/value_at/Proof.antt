@@ -1,8 +1,8 @@
 -- `value_at`: the operands are the two upper members of the stack.
-use Rattle.judge.specs.Unfold.{valueAt}
+use Rattle.node_value.specs.Unfold.{valueAt}
 use borrow.Author.Needs.{needs}
-use Rattle.judge.proofs.value_at.Statement.{statement}
-use Rattle.judge.proofs.value_at.Tie as tie
+use Rattle.node_value.proofs.value_at.Statement.{statement}
+use Rattle.node_value.proofs.value_at.Tie as tie
 
 returns : tie.Need-returns
 unfolding valueAt
