@@ -27,8 +27,8 @@ use Rattle.shown.specs.declared.Found.{Found}
 use Rattle.shown.specs.declared.Found.the-variants.{Correct, Fails}
 use Rattle.shown.specs.Positions.{markOf}
 use Rattle.shown.specs.Tests.{checkedOf}
-use Rattle.neighbour.specs.declared.report.ShownRun.{ShownRun}
-use Rattle.neighbour.specs.declared.report.Report.{Report}
+use Rattle.neighbour.specs.declared.sent.ShownRun.{ShownRun}
+use Rattle.neighbour.specs.declared.sent.Report.{Report}
 use Rattle.neighbour.specs.declared.Judged.{Judged}
 use Rattle.neighbour.specs.declared.Judged.the-variants.{Accepted, WrongRun, WrongVerdict, Stopped, Refused}
 use Rattle.neighbour.specs.Report.{needsOf, reportChecked}

@@ -10,8 +10,8 @@ use Rattle.answers.specs.declared.Kind.the-variants.{Value, RunLength}
 use Rattle.answers.specs.declared.Outcome.{Outcome}
 use Rattle.answers.specs.declared.Outcome.the-variants.{Accepted, Refused}
 use Rattle.answers.specs.Paper.{refusedAt}
-use Rattle.neighbour.specs.declared.report.ShownRun.{ShownRun}
-use Rattle.neighbour.specs.declared.report.Report.{Report}
+use Rattle.neighbour.specs.declared.sent.ShownRun.{ShownRun}
+use Rattle.neighbour.specs.declared.sent.Report.{Report}
 
 -- ---- the runs
 

@@ -1,6 +1,6 @@
 // A neighbour's report checked: table, rule and log as texts, a claimed verdict, and complete runs. Each run that the claim needs is judged by what runs and rules
 // mean, and not by our monitor; only a claim that one run can't prove is compared with our verdict.
-pub mod report;
+pub mod sent;
 
 use advance::lamp;
 use answers::Outcome;
@@ -12,10 +12,10 @@ use opened::open_texts;
 use pairs::Pairs;
 use plant::Plant;
 use plant::Table;
-use report::Report;
-use report::ShownRun;
-use report::check_report;
-use report::needs;
+use sent::Report;
+use sent::ShownRun;
+use sent::check_report;
+use sent::needs;
 use shown::Failing;
 use shown::Found;
 use shown::check_run;

@@ -36,7 +36,7 @@ use Rattle.shown.specs.Positions.{markOf}
 use Rattle.shown.specs.Shown.{Starts, MovesOn, FairOn, AgreesAll, FirstFailing}
 use Rattle.shown.specs.Tests.{checkedOf}
 use Rattle.shown.specs.Right.{run-is, checked-means}
-use Rattle.neighbour.specs.declared.report.ShownRun.{ShownRun}
+use Rattle.neighbour.specs.declared.sent.ShownRun.{ShownRun}
 use Rattle.neighbour.specs.declared.Judged.{Judged}
 use Rattle.neighbour.specs.declared.Judged.the-variants.{Accepted, WrongRun, WrongVerdict, Stopped, Refused}
 use Rattle.neighbour.specs.Report.{noRun, joinedOf, shownOf, needsOf, tooLong, reportChecked, reportOf}

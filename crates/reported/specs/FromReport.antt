@@ -35,7 +35,7 @@ use Rattle.front_door.specs.FromTexts.{value}
 use Rattle.front_door.specs.FromLog.{input, start, behind-rule, course, course-is, log-read, taken, all-gone}
 use Rattle.front_door.specs.Lamps.{Gone, all-taken, stopped, Stop, illegal, stray, all-taken-to, behind-taken, watched}
 use Rattle.front_door.specs.OneOutput.{lit-right}
-use Rattle.neighbour.specs.declared.report.Report.{Report}
+use Rattle.neighbour.specs.declared.sent.Report.{Report}
 use Rattle.neighbour.specs.declared.Judged.{Judged}
 use Rattle.neighbour.specs.declared.Judged.the-variants.{Accepted}
 use Rattle.neighbour.specs.Report.{reportOf}

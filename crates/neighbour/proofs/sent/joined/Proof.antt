@@ -1,8 +1,8 @@
--- `report::joined`: two texts, one behind the other.
+-- `sent::joined`: two texts, one behind the other.
 use borrow.Author.Needs.{needs}
 use Rattle.neighbour.proofs.Runs.{joined-by}
-use Rattle.neighbour.proofs.report.joined.Statement.{statement}
-use Rattle.neighbour.proofs.report.joined.Tie as tie
+use Rattle.neighbour.proofs.sent.joined.Statement.{statement}
+use Rattle.neighbour.proofs.sent.joined.Tie as tie
 
 returns : tie.Need-returns
 returns c = joined-by (c .before .before .before .before .put-text .ensures) (c .before .put-text2 .ensures)

@@ -1,12 +1,12 @@
--- `report::is_long`: by the stem, and then by what it leaves.
+-- `sent::is_long`: by the stem, and then by what it leaves.
 use borrow.Author.Needs.{needs}
 use Prim.Native.Nat.{_+_}
 use mathlib.Core.Path.{sym}
 use native.Mathlib.Omega.{arith}
 use borrow.Author.Tests.{lt-ltb}
 use Rattle.neighbour.proofs.Runs.{long-rest}
-use Rattle.neighbour.proofs.report.is_long.Statement.{statement}
-use Rattle.neighbour.proofs.report.is_long.Tie as tie
+use Rattle.neighbour.proofs.sent.is_long.Statement.{statement}
+use Rattle.neighbour.proofs.sent.is_long.Tie as tie
 
 returns : tie.Need-returns
 returns c = let a = c .before .args in sym (lt-ltb 4096 (a .stem + a .turn) (omega (arith, c .if1 .taken)))

@@ -1,8 +1,8 @@
 -- `ShownRun::of`: by whether it is too long.
 use borrow.Author.Needs.{needs}
 use Rattle.neighbour.proofs.Runs.{long-by, short-by, fits-by}
-use Rattle.neighbour.proofs.report.ShownRun.of.Statement.{statement}
-use Rattle.neighbour.proofs.report.ShownRun.of.Tie as tie
+use Rattle.neighbour.proofs.sent.ShownRun.of.Statement.{statement}
+use Rattle.neighbour.proofs.sent.ShownRun.of.Tie as tie
 
 returns : tie.Need-returns
 returns c = long-by (c .before .before .before .before .args .stem .now) (c .before .before .before .before .args .turn .now) (c .before .is-long .ensures) (c .if1 .taken)

@@ -1,9 +1,9 @@
--- `report::needs`: by the kind.
+-- `sent::needs`: by the kind.
 use borrow.Author.Needs.{needs}
 use mathlib.Core.Path.{refl}
 use Rattle.neighbour.specs.Report.{needsOf}
-use Rattle.neighbour.proofs.report.needs.Statement.{statement}
-use Rattle.neighbour.proofs.report.needs.Tie as tie
+use Rattle.neighbour.proofs.sent.needs.Statement.{statement}
+use Rattle.neighbour.proofs.sent.needs.Tie as tie
 
 returns : tie.Need-returns
 unfolding needsOf

@@ -1,9 +1,9 @@
--- `report::too_long`: of either kind.
+-- `sent::too_long`: of either kind.
 use borrow.Author.Needs.{needs}
 use mathlib.Core.Path.{refl}
 use Rattle.neighbour.specs.Report.{tooLong}
-use Rattle.neighbour.proofs.report.too_long.Statement.{statement}
-use Rattle.neighbour.proofs.report.too_long.Tie as tie
+use Rattle.neighbour.proofs.sent.too_long.Statement.{statement}
+use Rattle.neighbour.proofs.sent.too_long.Tie as tie
 
 returns : tie.Need-returns
 unfolding tooLong

@@ -1,8 +1,8 @@
--- `report::check_report`: the claim, and then the lengths.
+-- `sent::check_report`: the claim, and then the lengths.
 use borrow.Author.Needs.{needs}
 use Rattle.neighbour.proofs.Runs.{bad-claim, long-run, good-report}
-use Rattle.neighbour.proofs.report.check_report.Statement.{statement}
-use Rattle.neighbour.proofs.report.check_report.Tie as tie
+use Rattle.neighbour.proofs.sent.check_report.Statement.{statement}
+use Rattle.neighbour.proofs.sent.check_report.Tie as tie
 
 returns : tie.Need-returns
 returns c = let a = c .before .before .args in bad-claim (a .claim) (a .keeping) (a .breaking) (c .before .if1 .taken) (c .at .ensures)
