@@ -1,8 +1,8 @@
 -- WHAT WAS PUT IN IS READ BACK: `radio-back`, for every radio in which nothing stands but the refusal of an event or of a byte; its words can all stand
 -- where they do (`words-stand`), and the other words of the box stay (`others-stay`).
 use Prim.Native.Nat.{ℕ, zero, suc, _+_, _-_, _*_, _/_, _%_, _^_, _≤_, _<_}
-use mathlib.Core.Path.{_≡_, refl, sym, ap, ap₂, subst, _∙_}
-use mathlib.Core.Bool.{Bool, true, So, cond, _&&_, _||_}
+use mathlib.Core.Path.{_≡_, refl, sym, ap, subst, _∙_}
+use mathlib.Core.Bool.{true, cond, _&&_, _||_}
 use mathlib.Core.Logic.{_⊎_, inl, inr}
 use mathlib.Core.List.{List}
 use native.Mathlib.Omega.{arith}
@@ -10,7 +10,7 @@ use native.Mathlib.Nat.{div-div-eq-div-mul}
 use lib.Dec.{eqb, ltb}
 use lib.ListN.{length, getD}
 use lib.Pow.{pow-add}
-use borrow.Author.Tests.{lt-ltb, le-ltb, eq-eqb, ne-eqb}
+use borrow.Author.Tests.{lt-ltb, le-ltb}
 use Rattle.words.specs.Lists.{list-at, list-of}
 use Rattle.answers.specs.declared.Kind.the-variants.{IllegalEvent, LogText, Number}
 use Rattle.answers.specs.declared.Outcome.{Outcome}

@@ -1,6 +1,6 @@
 -- WHAT THE CALLS PUT IN CAN BE PUT IN: the radio that has heard nothing is one (`silent-sendable`), and so is that behind every scrap of one (`take-sendable`). So with
 -- `radio-back` a box that is kept between any two scraps gives the radio back as it was.
-use Prim.Native.Nat.{ℕ, zero, suc, _+_, _≤_, _<_}
+use Prim.Native.Nat.{ℕ, zero, suc, _+_, _<_}
 use native.Mathlib.Omega.{arith}
 use native.Mathlib.Decide.{decLt}
 use mathlib.Core.Path.{_≡_, refl, ap, subst}
