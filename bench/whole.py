@@ -1,7 +1,8 @@
 #!/usr/bin/env python3
 """Prints what a whole log takes by the library for C programs, beside stepping one by one and beside the C twin; bench/whole calls it.
 
-usage: bench/whole.py time|count ROOM ROUNDS   ROOM has whole, and count.so where instructions are counted, and gets a folder for each case.
+usage: bench/whole.py time|count ROOM ROUNDS [scraps]   ROOM has whole, and count.so where instructions are counted, and gets a folder for each case.
+With `scraps`: what it takes where it comes in scraps of 1, 20 and 4,096 bytes, beside the whole log in one call.
 """
 import os
 import subprocess
@@ -14,6 +15,8 @@ WHOLE, NUMBERS = os.path.join(ROOM, 'whole'), os.path.join(ROOM, 'count.txt')
 MODES = ('call', 'steps', 'twin')
 SHORT, LONG = 100, 1100
 LENGTHS = (1000, 10000, 100000, 1000000)
+# Scraps of so many bytes, and the lines between which a line is measured: 1,024 lines, of 20 or of 24 bytes, are whole scraps of 4,096.
+SIZES = {'take-1': (5, 25), 'take-20': (100, 400), 'take-4096': (1024, 2048)}
 
 
 def run(folder, mode, lines):
@@ -49,9 +52,27 @@ def events(folder, modes, short, long):
     return {mode: (cost[mode, long] - cost[mode, short]) / (long - short) for mode in modes}
 
 
+def scraps(drawn, unit):
+    modes = ('call',) + tuple(SIZES)
+    print('a line of a log in scraps, in %s' % unit)
+    print('%-14s' % 'case' + ''.join(' %12s' % mode for mode in modes))
+    total = dict.fromkeys(modes, 0)
+    for case, words in drawn.items():
+        folder = cases.folder(ROOM, words + ['lines=%d' % max(long for _, long in SIZES.values())])
+        took = events(folder, ('call',), SHORT, LONG)
+        for mode, (short, long) in SIZES.items():
+            took[mode] = events(folder, ('call', mode), short, long)[mode]
+        print('%-14s' % case + ''.join(' %12.0f' % took[mode] for mode in modes), flush=True)
+        for mode in modes:
+            total[mode] += took[mode]
+    print('%-14s' % 'all' + ''.join(' %12.0f' % total[mode] for mode in modes))
+
+
 def main():
     drawn = cases.listed()[0]
     unit = 'ns' if HOW == 'time' else 'instructions'
+    if sys.argv[4:] == ['scraps']:
+        return scraps(drawn, unit)
     print('an event, in %s' % unit)
     print('%-10s' % 'case' + ''.join(' %10s' % mode for mode in MODES) + ' %12s %12s' % ('call to twin', 'steps to call'))
     total = dict.fromkeys(MODES, 0)
