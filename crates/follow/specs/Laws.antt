@@ -24,7 +24,7 @@ use Rattle.text.specs.Number.{widthOf, width-between}
 use Rattle.log.specs.declared.Event.{Event}
 use Rattle.log.specs.Line.{lineBytes}
 use Rattle.log.specs.Read.{isNumbered, bytesIn, eventAt}
-use Rattle.advance.specs.declared.Monitor.{Monitor}
+use Rattle.sides.specs.declared.Monitor.{Monitor}
 use Rattle.monitor.specs.declared.Watched.{Watched}
 use Rattle.monitor.specs.Calls.{stepCall}
 use Rattle.radio.specs.declared.Radio.{Radio}

@@ -27,9 +27,9 @@ use Rattle.log.specs.Read.{bytesIn, eventAt}
 use Rattle.checks.specs.Input.{input-accepted}
 use Rattle.ways.specs.declared.Ways.{Ways}
 use Rattle.ways.specs.Ways.{waysOf}
-use Rattle.advance.specs.declared.Monitor.{Monitor}
-use Rattle.advance.specs.Numbers.{eventOutcome, inTurn, numberOf}
-use Rattle.advance.specs.Sides.{takenIn}
+use Rattle.sides.specs.declared.Monitor.{Monitor}
+use Rattle.event_numbers.specs.Numbers.{eventOutcome, inTurn, numberOf}
+use Rattle.sides.specs.Sides.{takenIn}
 use Rattle.monitor.specs.declared.Watched.{Watched}
 use Rattle.monitor.specs.Calls.{stepCall}
 use Rattle.course.specs.Course.{turnOf, turn}
