@@ -44,6 +44,11 @@ columnFor e = columnOf (e .see) (e .val) (e .new)
 abbrev pub WithoutGaps : List Event → Type 0
 WithoutGaps es = filled es ≡ map eventOf es
 
+-- each event is one that so many propositions allow
+abbrev pub AllLegal : ℕ → List Event → Type 0
+AllLegal props [] = Unit {0}
+AllLegal props (e ∷ es) = So (legalOf e props) × AllLegal props es
+
 -- a machine that is made of the monitor of a table and a rule
 abbrev pub MadeFor : run.Plant → Formula → Machine → Type 0
 MadeFor T f m = machines.Made (length (columnsOf (T .props))) (stepAt T f (liveSet T f)) shownIn (model.opening T f (liveSet T f)) m
@@ -65,12 +70,15 @@ module _ (p : Plant) (fair label next : List ℕ) (rule : Rule) (given : Input p
   legal : (e : Event) (seen : Bool) (expected : ℕ) (es : List Event) → TakenFrom p fair label next rule seen expected (e ∷ es) → So (legalOf e (p .props))
   legal e seen expected es taken = legal-is p fair label next rule given e ∙ legal-says T (seenOf e) .1 (taken .0 .0)
 
-  -- the columns of accepted events are columns
-  pub columns-in : (es : List Event) (seen : Bool) (expected : ℕ) → TakenFrom p fair label next rule seen expected es → Columns (length (columnsOf (p .props))) (map columnFor es)
-  columns-in [] seen expected taken = none
-  columns-in (e ∷ es) seen expected taken =
-      more {k = columnFor e} (rw (columns-count (p .props) (given .table .some-props) few) (column-low (p .props) (given .table .some-props) few e (legal e seen expected es taken)))
-      (columns-in es _ _ (taken .1))
+  pub taken-legal : (es : List Event) (seen : Bool) (expected : ℕ) → TakenFrom p fair label next rule seen expected es → AllLegal (p .props) es
+  taken-legal [] seen expected taken = tt
+  taken-legal (e ∷ es) seen expected taken = (legal e seen expected es taken, taken-legal es _ _ (taken .1))
+
+  -- the columns of legal events are columns
+  pub columns-in : (es : List Event) → AllLegal (p .props) es → Columns (length (columnsOf (p .props))) (map columnFor es)
+  columns-in [] ok = none
+  columns-in (e ∷ es) (ok, rest) =
+      more {k = columnFor e} (rw (columns-count (p .props) (given .table .some-props) few) (column-low (p .props) (given .table .some-props) few e ok)) (columns-in es rest)
 
   -- a column stands for its event
   column-is : (e : Event) → So (legalOf e (p .props)) → eventOf (getD (columnsOf (p .props)) (columnFor e) nothing) ≡ eventOf e
@@ -78,13 +86,13 @@ module _ (p : Plant) (fair label next : List ℕ) (rule : Rule) (given : Input p
       ap eventOf (columns-at (p .props) (given .table .some-props) few (columnFor e) (column-low (p .props) (given .table .some-props) few e ok) ∙ column-event (p .props) (given .table .some-props) few e ok)
 
   -- and leads the monitor where the event does
-  leads-there : (es : List Event) (seen : Bool) (expected : ℕ) → TakenFrom p fair label next rule seen expected es → (m : model.Monitor)
+  pub leads-there : (es : List Event) → AllLegal (p .props) es → (m : model.Monitor)
       → stepped (stepAt T f (liveSet T f)) m (map columnFor es) ≡ foldl (model.stepOf T f (liveSet T f)) m (map eventOf es)
   unfolding stepped stepAt
-  leads-there [] seen expected taken m = refl
-  leads-there (e ∷ es) seen expected taken m =
-      leads-there es _ _ (taken .1) (model.stepOf T f (liveSet T f) m (eventOf (getD (columnsOf (p .props)) (columnFor e) nothing)))
-      ∙ ap (λ (x : meaning.Event). foldl (model.stepOf T f (liveSet T f)) (model.stepOf T f (liveSet T f) m x) (map eventOf es)) (column-is e (legal e seen expected es taken))
+  leads-there [] ok m = refl
+  leads-there (e ∷ es) (ok, rest) m =
+      leads-there es rest (model.stepOf T f (liveSet T f) m (eventOf (getD (columnsOf (p .props)) (columnFor e) nothing)))
+      ∙ ap (λ (x : meaning.Event). foldl (model.stepOf T f (liveSet T f)) (model.stepOf T f (liveSet T f) m x) (map eventOf es)) (column-is e ok)
 
   -- MACHINE AND STEPPING AGREE on every accepted log without gaps, and so after each event of it
   pub machine-agrees : {m : Machine} → MadeFor T f m → (es : List Event) → AllTaken p fair label next rule es → WithoutGaps es
@@ -95,6 +103,6 @@ module _ (p : Plant) (fair label next : List ℕ) (rule : Rule) (given : Input p
       record {
         lamp = lampIn there;
         shows = ap (λ (w : Watched). w .answer) (after-model p fair label next rule given es taken);
-        output = made .agrees (map columnFor es) (columns-in es _ _ taken)
-            ∙ ap shownIn (leads-there es _ _ taken (model.opening T f (liveSet T f)) ∙ ap (foldl (model.stepOf T f (liveSet T f)) (model.opening T f (liveSet T f))) (sym gapless));
+        output = made .agrees (map columnFor es) (columns-in es (taken-legal es _ _ taken))
+            ∙ ap shownIn (leads-there es (taken-legal es _ _ taken) (model.opening T f (liveSet T f)) ∙ ap (foldl (model.stepOf T f (liveSet T f)) (model.opening T f (liveSet T f))) (sym gapless));
       }

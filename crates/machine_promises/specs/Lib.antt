@@ -1,2 +1,5 @@
 pub mod Agrees
+pub mod FewRows
+pub mod InBytes
+pub mod LookUps
 pub mod Promises
