@@ -224,6 +224,11 @@ OF_MACHINES {
     WordsStayAtFifteen: "the words stay as they were at 15",
     WordsStayAtEleven: "the words stay as they were where the machine does not fit",
 }
+OF_ROWS {
+    LinesFromOne: "the lines number the rows from 1",
+    NamesValBeforeSee: "a column is named by val before see",
+    LastRowLost: "the array leaves the last row out",
+}
 OF_LOOK_UPS {
     PartOfARow: "bytes behind the last whole row are passed over",
     EventBeforeBytes: "10 goes before 9",
@@ -329,5 +334,5 @@ pub fn with<T>(fault: Option<Fault>, work: impl FnOnce() -> T) -> T {
 }
 
 pub fn named(name: &str) -> Option<Fault> {
-    ALL.iter().chain(OF_TABLES).chain(OF_WRITING).chain(OF_SHEETS).chain(OF_STORES).chain(OF_CLOSING).chain(OF_RUNS).chain(OF_MACHINES).chain(OF_LOOK_UPS).chain(OF_DAYS).chain(OF_REPORTS).chain(OF_MINUTES).chain(OF_SCRAPS).find(|f| f.1 == name).map(|f| f.0)
+    ALL.iter().chain(OF_TABLES).chain(OF_WRITING).chain(OF_SHEETS).chain(OF_STORES).chain(OF_CLOSING).chain(OF_RUNS).chain(OF_MACHINES).chain(OF_ROWS).chain(OF_LOOK_UPS).chain(OF_DAYS).chain(OF_REPORTS).chain(OF_MINUTES).chain(OF_SCRAPS).find(|f| f.1 == name).map(|f| f.0)
 }

@@ -1,4 +1,4 @@
-//! A rule as a fixed machine: the functions jug_machine and jug_machine_step. Rows are told apart here by marking pairs of states, from those that show something else
+//! A rule as a fixed machine: the functions jug_machine and jug_machine_step, and the program `machine`. Rows are told apart here by marking pairs of states, from those that show something else
 //! backwards, and not by classes that are split.
 
 use crate::calls::{four, hex};
@@ -9,6 +9,7 @@ use crate::log::Event;
 use crate::pairs::{Graph, Monitor};
 use crate::plant::{self, Plant};
 use crate::rule;
+use crate::watch::{File, Files};
 use crate::Refusal;
 use std::collections::HashMap;
 
@@ -280,4 +281,90 @@ pub fn step_asked(dice: &mut Dice) -> (String, String) {
     }
     let asked = format!("{} {} {} {} {} {}", hex(&bytes), props, row, event.see, event.val, event.new as u8);
     (asked, stepped(&bytes, props, row, event))
+}
+
+/// The whole output of the program `machine`, but for what it says before the rows and how far apart things stand.
+pub fn output(files: &Files) -> String {
+    written(files).unwrap_or_else(|refusal| format!("refused={} place={}\n", refusal.number, refusal.place))
+}
+
+fn written(files: &Files) -> Result<String, Refusal> {
+    let plant = files.read_plant()?;
+    let rule = files.read_rule(plant.props)?;
+    let refused = |number: usize| Refusal { number, place: 0 };
+    if plant.props > 3 {
+        return Err(refused(1));
+    }
+    let (bytes, rows) = machine(&plant, &rule).ok_or(refused(15))?;
+    let width = bytes.len() / rows;
+    let mut text = String::from("/*\n row verdict left");
+    for event in columns(plant.props) {
+        let (first, second) = if faults::is(Fault::NamesValBeforeSee) { (event.val, event.see) } else { (event.see, event.val) };
+        text += &format!(" {}/{}/{}", first, second, event.new as u8);
+    }
+    for (number, row) in bytes.chunks(width).enumerate() {
+        let word = ["inconclusive", "true", "false", "out-of-model"][(row[0] as usize).min(3)];
+        let cells: Vec<String> = row[2..].iter().map(|cell| cell.to_string()).collect();
+        text += &format!("\n {} {} {} {}", number + faults::is(Fault::LinesFromOne) as usize, word, row[1], cells.join(" "));
+    }
+    text += &format!("\n*/\nstatic const unsigned char jug_machine_bytes[{}][{}] = {{\n", rows, width);
+    for row in bytes.chunks(width).take(rows - faults::is(Fault::LastRowLost) as usize) {
+        let numbers: Vec<String> = row.iter().map(|byte| byte.to_string()).collect();
+        text += &format!("    {{{}}},\n", numbers.join(","));
+    }
+    Ok(text + "};\n")
+}
+
+/// The words and signs of each line, from the one that names the columns on; none if there is no comment before it, or it ends too soon.
+fn told(text: &str) -> Option<Vec<Vec<String>>> {
+    let begins = text.find("\n row verdict")?;
+    if !text.starts_with("/*") || text[..begins].contains("*/") {
+        return None;
+    }
+    let apart = |line: &str| line.chars().fold(String::new(), |all, c| if ",{}[]=;".contains(c) { format!("{} {} ", all, c) } else { format!("{}{}", all, c) });
+    Some(text[begins..].lines().filter(|line| !line.is_empty()).map(|line| apart(line).split_whitespace().map(String::from).collect()).collect())
+}
+
+/// What is wrong with what the program wrote for some files, if anything.
+fn fault(files: &Files, got: &str) -> Option<String> {
+    let wanted = faults::with(None, || output(files));
+    if wanted.starts_with("refused=") || got.starts_with("refused=") {
+        return (wanted != got).then(|| format!("wanted {:?}, got {:?}", wanted.lines().next(), got.lines().next()));
+    }
+    let (wanted, got) = (told(&wanted).unwrap(), match told(got) {
+        Some(got) => got,
+        None => return Some(String::from("no comment with rows")),
+    });
+    let line = (0..wanted.len().max(got.len())).find(|i| wanted.get(*i) != got.get(*i))?;
+    Some(format!("line {} from the columns on: wanted {:?}, got {:?}", line + 1, wanted.get(line), got.get(line)))
+}
+
+fn folder(seed: u64, number: usize) -> Files {
+    let mut dice = Dice::new(seed ^ 0x3a3a, number as u64);
+    let (mut plant, mut text) = few(&mut dice);
+    match dice.below(12) {
+        0 => plant.props = *dice.pick(&[4, 8, 16]),
+        1 => text.push('&'),
+        _ => (),
+    }
+    Files { plant: File::Bytes(plant.text()), rule: File::Bytes(text.into_bytes()), log: File::Missing }
+}
+
+/// The program on so many folders; and mistakes planted in our own reading, each of which some of the folders must find.
+pub fn drive(seed: u64, count: usize, program: &dyn Fn(Files) -> Result<String, String>) -> Result<String, String> {
+    let mut refused = 0;
+    for number in 0..count {
+        let got = program(folder(seed, number))?;
+        if let Some(why) = fault(&folder(seed, number), &got) {
+            return Err(format!("folder {} of seed {}: {}", number, seed, why));
+        }
+        refused += got.starts_with("refused=") as usize;
+    }
+    let planted: Vec<&faults::Planted> = faults::OF_ROWS.iter().chain(faults::OF_MACHINES.iter().take(7)).collect();
+    let found = |planted: &faults::Planted| (0..count).any(|number| fault(&folder(seed, number), &faults::with(Some(planted.0), || output(&folder(seed, number)))).is_some());
+    let missed: Vec<&str> = planted.iter().filter(|p| !found(p)).map(|p| p.1).collect();
+    if !missed.is_empty() {
+        return Err(format!("planted mistakes that no folder finds: {}", missed.join(", ")));
+    }
+    Ok(format!("machines: the rows and the arrays of {} seeded plants are those of another reading, and {} more are refused as they should be; each of {} planted mistakes is found", count - refused, refused, planted.len()))
 }

@@ -3,6 +3,7 @@
 //!   outside drive SEED CASES KEEP PROGRAM..   runs the program `watch` on seeded cases and compares whole outputs
 //!   outside drive-runs SEED CASES KEEP PROGRAM..   runs the program `runs` on them and checks each run
 //!   outside drive-table SEED CASES KEEP PROGRAM..   runs the program `table` on them and compares whole outputs
+//!   outside drive-machine SEED CASES PROGRAM..   runs the program `machine` on seeded plants of few propositions and compares rows and arrays
 //!   outside lassos SEED CASES                 compares our own reading with the meaning of runs
 //!   outside sensors SEED CASES DRIVEN PROGRAM..   compares the lamps of a log with those of a better sensor, and of a table with those of a smaller one
 //!   outside faults SEED CASES                 plants mistakes in our own reading and sees that the cases find each
@@ -11,6 +12,7 @@
 //!   outside play-runs [FAULT]                 is the program `runs` in the same way
 //!   outside play-table [FAULT]                is the program `table` in the same way
 //!   outside play-day [FAULT]                  is the program `day` in the same way
+//!   outside play-machine [FAULT]              is the program `machine` in the same way, but for what it says before the rows
 //!   outside lines FOLDER FILE                 checks the lines that `runs` wrote for a folder
 //!   outside marked FILE                       checks the lines of the paper's marked examples
 //!   outside case SEED NUMBER FOLDER           writes a case's files and its expected output into a folder
@@ -83,6 +85,12 @@ fn lassos(words: &[String]) -> Result<String, String> {
 fn sensors(words: &[String]) -> Result<String, String> {
     let program = words[3..].to_vec();
     sensors::all(number(&words[0]) as u64, number(&words[1]), number(&words[2]), &|files| drive::wrote(&program, files))
+}
+
+/// The program `machine` on seeded plants.
+fn drive_machine(words: &[String]) -> Result<String, String> {
+    let program = words[2..].to_vec();
+    machines::drive(number(&words[0]) as u64, number(&words[1]), &|files| drive::wrote(&program, files))
 }
 
 /// The mistakes of a list that no case finds in what a program writes; those that few cases find are told. Large plants are left out: they take long, and find no more.
@@ -239,6 +247,7 @@ fn main() {
         Some("drive") if least(4) => drive(drive::lamps, &words[1..]),
         Some("drive-runs") if least(4) => drive(drive::runs, &words[1..]),
         Some("drive-table") if least(4) => drive(drive::table, &words[1..]),
+        Some("drive-machine") if least(3) => drive_machine(&words[1..]),
         Some("lassos") if least(2) => lassos(&words[1..]),
         Some("sensors") if least(4) => sensors(&words[1..]),
         Some("faults") if least(2) => faults(&words[1..]),
@@ -247,6 +256,7 @@ fn main() {
         Some("play-runs") => play(runs::output, &words[1..]),
         Some("play-table") => play(watch::table, &words[1..]),
         Some("play-day") => play_day(&words[1..]),
+        Some("play-machine") => play(machines::output, &words[1..]),
         Some("lines") if least(2) => lines(&words[1..]),
         Some("marked") if least(1) => marked(&words[1..]),
         Some("case") if least(3) => write_case(&words[1..]),
