@@ -1,6 +1,5 @@
 // A log as it comes: plant.txt and rule.txt of a folder, and the log from standard input, a lamp line for each event as soon as its line is whole. It is
 // thin as `program` is: the calls decide.
-use sides::Monitor;
 use answers::Answer;
 use answers::Kind;
 use answers::Outcome;
@@ -17,6 +16,7 @@ use radio::Form;
 use radio::Radio;
 use report::Line;
 use rule_text::RuleRead;
+use sides::Monitor;
 use syntax::Rule;
 use transcript::texts;
 ghost use mathlib.Core.Path.{_≡_};

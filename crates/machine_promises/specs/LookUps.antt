@@ -29,11 +29,11 @@ use Rattle.plant.specs.Table.{plantOf}
 use Rattle.syntax.specs.declared.Rule.{Rule}
 use Rattle.syntax.specs.Value.{formulaOf}
 use Rattle.log.specs.declared.Event.{Event}
-use Rattle.log.specs.Legal.{legalOf}
+use Rattle.log.specs.Legal.{legalOf, eventOf}
 use Rattle.log.specs.Log.{nothing}
 use Rattle.checks.specs.Input.{Input}
-use Rattle.advance.specs.Held.{eventOf, lampIn}
-use Rattle.advance.specs.Numbers.{numberOf, missingOf, unseen}
+use Rattle.sides.specs.Held.{lampIn}
+use Rattle.event_numbers.specs.Numbers.{numberOf, missingOf, unseen}
 use Rattle.monitor.specs.declared.Watched.{Watched}
 use Rattle.watching.specs.Filled.{filledFrom, filled}
 use Rattle.watching.specs.Watching.{after, TakenFrom, AllTaken, after-model}
