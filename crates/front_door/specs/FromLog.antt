@@ -55,7 +55,7 @@ use Rattle.opened.specs.Opened.{notOpened, made, partsOpened, ruleOpened, opene
 use Rattle.controller.specs.declared.LogAnswer.{LogAnswer}
 use Rattle.controller.specs.declared.LogAnswer.the-variants.{Watched, Stopped}
 use Rattle.controller.specs.Whole.{Heard, logChecked, courseFrom, heardBy, heardIn, heardFrom, heardOf}
-use Rattle.transcript.specs.Lines.{dark}
+use Rattle.lamp_lines.specs.Lines.{dark}
 use Rattle.transcript.specs.Said.{File, bytes, bytesOf}
 use Rattle.front_door.specs.FrontDoor.{SaysTable, SaysRule, SaysLog, TakenAt, RightAfter, lineOf}
 use Rattle.front_door.specs.FrontDoor as door

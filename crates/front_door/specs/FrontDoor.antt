@@ -35,7 +35,7 @@ use Rattle.log.specs.Promises.{AllWritable, logSlots, logText}
 use Rattle.watching.specs.Filled.{filled, numberAt, InTurnAt}
 use Rattle.report.specs.Text.{startText, refusedText, lf}
 use Rattle.transcript.specs.End.{endOf}
-use Rattle.transcript.specs.Lines.{dark, linesText}
+use Rattle.lamp_lines.specs.Lines.{dark, linesText}
 use Rattle.transcript.specs.Said.{File, bytes, missing, outputOf}
 use Rattle.promises.specs.Demand.{Lit}
 

@@ -48,7 +48,7 @@ use Rattle.watching.specs.Watching.{TakenFrom, AllTaken, after, after-model, ru
 use Rattle.course.specs.Course.{Course, takes, numberIn, goOn, courseTo}
 use Rattle.course.specs.CourseRight.{held-at}
 use Rattle.report.specs.Text.{startText}
-use Rattle.transcript.specs.Lines.{dark, linesText, lines-same}
+use Rattle.lamp_lines.specs.Lines.{dark, linesText, lines-same}
 use Rattle.transcript.specs.Said as said
 use Rattle.promises.specs.Demand.{Lit, lamp-right}
 use Rattle.front_door.specs.FrontDoor.{LegalAt, TakenAt, RightAfter, Ends, at-end, at-event, at-number, lineOf, Shows, refused}

@@ -25,7 +25,7 @@ use Rattle.log.specs.Log.{nothing}
 use Rattle.checks.specs.Input.{Input}
 use Rattle.watching.specs.Filled.{numberAt}
 use Rattle.watching.specs.Watching.{after}
-use Rattle.transcript.specs.Lines.{dark}
+use Rattle.lamp_lines.specs.Lines.{dark}
 use Rattle.transcript.specs.Said.{File, bytes, outputOf}
 use Rattle.front_door.specs.FrontDoor.{SaysTable, SaysRule, SaysLog, TakenAt, Shows}
 use Rattle.front_door.specs.WholeLog.{SaysBare, bufferOf}

@@ -32,7 +32,7 @@ use Rattle.course.specs.Course.{Course, verdictBytes, leftBytes, Followed, Fitt
 use Rattle.course.specs.CourseRight.{opened-fitting}
 use Rattle.course.specs.Lamps.{Counted}
 use Rattle.transcript.specs.Place.{placedAt}
-use Rattle.transcript.specs.Lines.{byteLines, linesText, lines-are}
+use Rattle.lamp_lines.specs.Lines.{byteLines, linesText, lines-are}
 use Rattle.transcript.specs.Said.{fileOf, bytesOf, logOutcome, orRefused, stopText, behindText, openedText}
 
 module _ {b now : List ℕ} {end : ℕ} where

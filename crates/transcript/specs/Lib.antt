@@ -1,4 +1,3 @@
 pub mod End
 pub mod Place
-pub mod Lines
 pub mod Said

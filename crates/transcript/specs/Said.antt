@@ -26,7 +26,7 @@ use Rattle.course.specs.Course.{Course, courseOf}
 use Rattle.report.specs.Text.{refusedText, startText}
 use Rattle.transcript.specs.End.{endOf}
 use Rattle.transcript.specs.Place.{placedAt}
-use Rattle.transcript.specs.Lines.{linesText}
+use Rattle.lamp_lines.specs.Lines.{linesText}
 
 -- a file: its bytes; or it is missing, as one is that can't be read or is too long
 pub data File : Type 0 where

@@ -1,11 +1,10 @@
 // The program's whole output, for three texts, each there or not, in a lent buffer: what `outputOf` (specs/Said) says. A program reads its files,
 // calls this and writes the buffer.
-mod lines;
 mod play;
 pub mod texts;
 
 use answers::Outcome;
-use lines::put_refused;
+use lamp_lines::put_refused;
 use plant::Plant;
 use plant::Table;
 pub use play::at_line;

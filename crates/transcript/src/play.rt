@@ -1,11 +1,11 @@
 // From the start to the end of a log: the calls, one after the other, and the log by the one loop over its lines.
-use crate::lines::put_lamps;
-use crate::lines::put_refused;
-use crate::lines::put_start;
 use answers::Answer;
 use answers::Kind;
 use answers::Outcome;
 use answers::Refusal;
+use lamp_lines::put_lamps;
+use lamp_lines::put_refused;
+use lamp_lines::put_start;
 use pairs::Pairs;
 use plant::Plant;
 use sides::Monitor;
@@ -23,7 +23,7 @@ ghost use Rattle.monitor.specs.Calls.{openCall};
 ghost use Rattle.course.specs.Course.{courseOf, Fitting};
 ghost use Rattle.report.specs.Line.{Put};
 ghost use Rattle.transcript.specs.Place.{placedAt, atLine};
-ghost use Rattle.transcript.specs.Lines.{byteLines};
+ghost use Rattle.lamp_lines.specs.Lines.{byteLines};
 ghost use Rattle.transcript.specs.Said.{stopText, behindText, openedText, playedText};
 
 pub fn play(

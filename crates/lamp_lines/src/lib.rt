@@ -9,7 +9,7 @@ ghost use lib.ListN.{length, take};
 ghost use Rattle.io.specs.Counts.{Counts};
 ghost use Rattle.report.specs.Line.{Put};
 ghost use Rattle.report.specs.Text.{refusedText, startText, lampText};
-ghost use Rattle.transcript.specs.Lines.{numbered, lampOf, byteLines};
+ghost use Rattle.lamp_lines.specs.Lines.{numbered, lampOf, byteLines};
 
 fn put_line(out: &mut [u8], at: usize, line: Line) -> usize
     requires { ⌜ Counts (line .len) (line .bytes) × (at + 70 ≤ length (now out)) ⌝ }

@@ -5,9 +5,9 @@ use mathlib.Core.Path.{ap₂, _∙_}
 use Rattle.answers.specs.declared.Verdict.{Verdict}
 use Rattle.report.specs.Line.{lineOf}
 use Rattle.report.specs.Text.{lampText}
-use Rattle.transcript.proofs.Putting.{line-put}
-use Rattle.transcript.proofs.lines.put_lamp.Statement.{statement}
-use Rattle.transcript.proofs.lines.put_lamp.Tie as tie
+use Rattle.lamp_lines.proofs.Putting.{line-put}
+use Rattle.lamp_lines.proofs.put_lamp.Statement.{statement}
+use Rattle.lamp_lines.proofs.put_lamp.Tie as tie
 
 returns : tie.Need-returns
 returns c =

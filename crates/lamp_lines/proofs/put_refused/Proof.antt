@@ -1,8 +1,8 @@
 -- `put_refused`: its line put. Assumes nothing.
 use borrow.Author.Needs.{needs}
-use Rattle.transcript.proofs.Putting.{line-put}
-use Rattle.transcript.proofs.lines.put_refused.Statement.{statement}
-use Rattle.transcript.proofs.lines.put_refused.Tie as tie
+use Rattle.lamp_lines.proofs.Putting.{line-put}
+use Rattle.lamp_lines.proofs.put_refused.Statement.{statement}
+use Rattle.lamp_lines.proofs.put_refused.Tie as tie
 
 pub put-refused-spec : {M : Type 1} → statement M
 put-refused-spec =

@@ -6,10 +6,10 @@ use native.Mathlib.Omega.{arith}
 use lib.ListN.{length}
 use Rattle.report.specs.Line.{Put}
 use Rattle.report.proofs.Puts.{put-length}
-use Rattle.transcript.specs.Lines.{byteLines}
-use Rattle.transcript.proofs.Putting.{none-put, more-put}
-use Rattle.transcript.proofs.lines.put_lamps.Statement.{statement}
-use Rattle.transcript.proofs.lines.put_lamps.Tie as tie
+use Rattle.lamp_lines.specs.Lines.{byteLines}
+use Rattle.lamp_lines.proofs.Putting.{none-put, more-put}
+use Rattle.lamp_lines.proofs.put_lamps.Statement.{statement}
+use Rattle.lamp_lines.proofs.put_lamps.Tie as tie
 
 abbrev Inv-loop : tie.InvT-loop
 Inv-loop out₀ at done verdicts lefts numbers end₀ n₀ out end n = (n ≤ done) × (end ≤ at + 70 * n) × Put out₀ at (byteLines n verdicts lefts numbers) out end

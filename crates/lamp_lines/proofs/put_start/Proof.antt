@@ -1,9 +1,9 @@
 -- `put_start`: its line put. Assumes nothing.
 use borrow.Author.Needs.{needs}
 use native.Mathlib.Omega.{arith}
-use Rattle.transcript.proofs.Putting.{line-put}
-use Rattle.transcript.proofs.lines.put_start.Statement.{statement}
-use Rattle.transcript.proofs.lines.put_start.Tie as tie
+use Rattle.lamp_lines.proofs.Putting.{line-put}
+use Rattle.lamp_lines.proofs.put_start.Statement.{statement}
+use Rattle.lamp_lines.proofs.put_start.Tie as tie
 
 returns : tie.Need-returns
 returns c =

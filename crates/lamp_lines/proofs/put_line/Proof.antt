@@ -2,8 +2,8 @@
 use borrow.Author.Needs.{needs}
 use native.Mathlib.Omega.{arith}
 use Rattle.report.proofs.Puts.{full}
-use Rattle.transcript.proofs.lines.put_line.Statement.{statement}
-use Rattle.transcript.proofs.lines.put_line.Tie as tie
+use Rattle.lamp_lines.proofs.put_line.Statement.{statement}
+use Rattle.lamp_lines.proofs.put_line.Tie as tie
 
 put-text-requires : tie.Need-put-text-requires
 put-text-requires c κs =

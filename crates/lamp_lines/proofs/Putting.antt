@@ -10,7 +10,7 @@ use Rattle.report.specs.declared.Line.{Line}
 use Rattle.report.specs.Text.{lampText}
 use Rattle.report.specs.Line.{Put, lineOf}
 use Rattle.report.proofs.Puts.{puts}
-use Rattle.transcript.specs.Lines.{lampOf, byteLines}
+use Rattle.lamp_lines.specs.Lines.{lampOf, byteLines}
 
 pub line-put : {l : Line} {b now text : List ℕ} {at end : ℕ} → l ≡ lineOf text → Put b at (take (l .len) (l .bytes)) now end → Put b at text now end
 line-put {l} {b} {now} {text} {at} {end} e p =

@@ -2,8 +2,8 @@
 use borrow.Author.Needs.{needs}
 use borrow.Author.Tests.{eq-eqb, ne-eqb}
 use mathlib.Core.Path.{refl}
-use Rattle.transcript.proofs.lines.verdict_of.Statement.{statement}
-use Rattle.transcript.proofs.lines.verdict_of.Tie as tie
+use Rattle.lamp_lines.proofs.verdict_of.Statement.{statement}
+use Rattle.lamp_lines.proofs.verdict_of.Tie as tie
 
 pub verdict-of-spec : {M : Type 1} → statement M
 verdict-of-spec =
