@@ -1,10 +1,10 @@
-// A table as its text, for C programs.
-use crate::told;
-use crate::told::Answer;
+// A table as its text.
 use plant::Plant;
+use told::Answer;
 ghost use mathlib.Core.Path.{_≡_};
 ghost use Rattle.plant_writer.specs.Writing.{writeAnswer, writeBuffer};
-ghost use Rattle.jugastilum.specs.Tables.{wroteAs, plantFrom};
+ghost use Rattle.told.specs.Told.{wroteAs};
+ghost use Rattle.jugastilum.specs.Calls.{plantFrom};
 
 // Writes the table that is handed in as its text. The counts have 64 bits here, as in any program that links this.
 #[no_mangle]
@@ -27,5 +27,5 @@ pub extern "C" fn jug_write_table(
         start,
         just: just as usize,
     };
-    told::wrote(plant_writer::write_table(plant, fair, label, next, text))
+    told::table_written(plant_writer::write_table(plant, fair, label, next, text))
 }

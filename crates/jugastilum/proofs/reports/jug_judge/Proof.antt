@@ -1,7 +1,7 @@
 -- `reports::jug_judge`: by what the two calls ensure.
 use mathlib.Core.Path.{ap, _∙_}
+use Rattle.told.specs.Told.{judgedAs}
 use borrow.Author.Needs.{needs}
-use Rattle.jugastilum.specs.Reports.{judgedAs}
 use Rattle.jugastilum.proofs.reports.jug_judge.Statement.{statement}
 use Rattle.jugastilum.proofs.reports.jug_judge.Tie as tie
 

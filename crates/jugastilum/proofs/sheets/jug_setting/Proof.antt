@@ -2,7 +2,8 @@
 use mathlib.Core.Path.{ap, _∙_}
 use borrow.Author.Needs.{needs}
 use borrow.Author.Tests.{eq-eqb, ne-eqb}
-use Rattle.jugastilum.specs.Sheets.{askedAs, settingFor}
+use Rattle.told.specs.Told.{askedAs}
+use Rattle.jugastilum.specs.Calls.{settingFor}
 use Rattle.jugastilum.proofs.sheets.jug_setting.Statement.{statement}
 use Rattle.jugastilum.proofs.sheets.jug_setting.Tie as tie
 
@@ -18,4 +19,4 @@ jug-setting-spec =
     (λ c. simp (ne-eqb _ _ (c .before .before .before .before .if1 .left), ne-eqb _ _ (c .before .before .before .if2 .left), eq-eqb _ _ (c .before .before .if3 .taken))
     (c .asked3 .ensures ∙ ap askedAs (c .before .ask3 .ensures)))
     (λ c κs. search needs)
-    (λ c. simp (ne-eqb _ _ (c .before .before .before .if1 .left), ne-eqb _ _ (c .before .before .if2 .left), ne-eqb _ _ (c .before .if3 .left)) (c .refused .ensures)))
+    (λ c. simp (ne-eqb _ _ (c .before .before .before .if1 .left), ne-eqb _ _ (c .before .before .if2 .left), ne-eqb _ _ (c .before .if3 .left)) (c .sheet-refused .ensures)))

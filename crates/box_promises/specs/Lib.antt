@@ -1,0 +1,3 @@
+pub mod Typed
+pub mod Promises
+pub mod Beside

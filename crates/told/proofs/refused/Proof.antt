@@ -1,0 +1,11 @@
+-- `refused`: by the number that the kind has.
+use mathlib.Core.Path.{refl, _∙_}
+use borrow.Author.Needs.{needs}
+use Rattle.told.proofs.refused.Statement.{statement}
+use Rattle.told.proofs.refused.Tie as tie
+
+pub refused-spec : {M : Type 1} → statement M
+refused-spec =
+    tie.close (tie.spec
+    (λ c κs. search needs) (λ c κs. search needs)
+    (λ c. rw (c .wide .ensures ∙ c .before .number .ensures) refl))
