@@ -72,7 +72,7 @@ behind-check : (o : Outcome) (j : Judged) → (unlessRefused o j ≡ Accepted) �
 behind-check Outcomes.Accepted j = (λ e. (refl, e), λ h. h .1)
 behind-check (Outcomes.Refused r) j = (λ e. absurd (false≢true (ap accepts e)), λ h. absurd (false≢true (ap isAccepted (h .0))))
 
-checked-exactly : (claim : ℕ) (k b : Bool) → (reportChecked claim k b ≡ Outcomes.Accepted) ↔ ((claim ≤ 3) × (tooLong claim k b ≡ false))
+pub checked-exactly : (claim : ℕ) (k b : Bool) → (reportChecked claim k b ≡ Outcomes.Accepted) ↔ ((claim ≤ 3) × (tooLong claim k b ≡ false))
 unfolding reportChecked
 checked-exactly claim k b = by (ltb 3 claim) refl (tooLong claim k b)
   where
@@ -82,15 +82,15 @@ checked-exactly claim k b = by (ltb 3 claim) refl (tooLong claim k b)
     by false e true = (λ g. absurd (false≢true (ap isAccepted g)), λ h. absurd (false≢true (sym (h .1))))
     by false e false = (λ g. (ltb-false 3 claim e, refl), λ h. refl)
 
-or-false : (a b : Bool) → (a || b) ≡ false → (a ≡ false) × (b ≡ false)
+pub or-false : (a b : Bool) → (a || b) ≡ false → (a ≡ false) × (b ≡ false)
 or-false true b e = absurd (false≢true (sym e))
 or-false false b e = (refl, e)
 
-both-false : (a b : Bool) → a ≡ false → b ≡ false → (a || b) ≡ false
+pub both-false : (a b : Bool) → a ≡ false → b ≡ false → (a || b) ≡ false
 both-false a b x y = rw (x, y) refl
 
 -- a run is too long exactly if it says so
-long-is : (stem turn : List ℕ) → shownOf stem turn .long ≡ ltb 4096 (length stem + length turn)
+pub long-is : (stem turn : List ℕ) → shownOf stem turn .long ≡ ltb 4096 (length stem + length turn)
 unfolding shownOf
 long-is stem turn = by (ltb 4096 (length stem + length turn))
   where
@@ -161,16 +161,16 @@ module _ (p : Plant) (fair label next : List ℕ) (rule : Rule) (f : Formula) (i
       rw (need, fits, take-append-seam (stem ++ turn) (drop (length (stem ++ turn)) (replicate 4096 0))) (run-exactly b stem turn (ltb-false 4096 (length stem + length turn) fits))
 
   -- any other is not looked at
-  looked-other : (claim : ℕ) (b : Bool) (r : ShownRun) → needsOf claim b ≡ false → looked claim b r ≡ Correct
+  pub looked-other : (claim : ℕ) (b : Bool) (r : ShownRun) → needsOf claim b ≡ false → looked claim b r ≡ Correct
   unfolding lookedAt
   looked-other claim b r need = rw need refl
 
-  is-shown : (claim : ℕ) (b : Bool) (stem turn : List ℕ) → needsOf claim b ≡ true → shownOf stem turn .long ≡ false → looked claim b (shownOf stem turn) ≡ Correct → IsShown T f h b stem turn
+  pub is-shown : (claim : ℕ) (b : Bool) (stem turn : List ℕ) → needsOf claim b ≡ true → shownOf stem turn .long ≡ false → looked claim b (shownOf stem turn) ≡ Correct → IsShown T f h b stem turn
   is-shown claim b stem turn need fits e =
       let low = sym (long-is stem turn) ∙ fits in
       (ltb-false 4096 (length stem + length turn) low, looked-exactly claim b stem turn need low .0 e)
 
-  shown-is : (claim : ℕ) (b : Bool) (stem turn : List ℕ) → needsOf claim b ≡ true → IsShown T f h b stem turn → (shownOf stem turn .long ≡ false) × (looked claim b (shownOf stem turn) ≡ Correct)
+  pub shown-is : (claim : ℕ) (b : Bool) (stem turn : List ℕ) → needsOf claim b ≡ true → IsShown T f h b stem turn → (shownOf stem turn .long ≡ false) × (looked claim b (shownOf stem turn) ≡ Correct)
   shown-is claim b stem turn need (few, c) =
       let low = le-ltb 4096 (length stem + length turn) few in
       (long-is stem turn ∙ low, looked-exactly claim b stem turn need low .1 c)

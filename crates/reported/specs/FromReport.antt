@@ -1,8 +1,8 @@
--- From texts to the answer: the texts are opened, the course of the log shows the last verdict, and the runs are judged. Here is the claim of Reports proved.
+-- From texts to the answer: the texts are opened, the course of the log shows the last verdict, and the runs are judged. Here are the claims of Every and Reports proved.
 use Prim.Native.Nat.{ℕ, _<_}
 use native.Mathlib.Omega.{arith}
 use mathlib.Core.Path.{_≡_, refl, sym, ap, ap₂, subst, _∙_}
-use mathlib.Core.Logic.{_↔_}
+use mathlib.Core.Logic.{_↔_, inl}
 use mathlib.Core.List.{List}
 use lib.ListN.{length, getD, take}
 use lib.Seq.{take-length}
@@ -11,14 +11,26 @@ use Rattle.meaning.specs.Run as run
 use Rattle.meaning.specs.Event.{since}
 use Rattle.meaning.specs.Limits.{AcceptedTable}
 use Rattle.text.specs.Number.{widthOf}
+use Rattle.text.specs.Lines.{lineStart}
+use Rattle.text.specs.Written.{smallOf}
 use Rattle.answers.specs.declared.Lamp.{Lamp}
+use Rattle.answers.specs.declared.Kind.{Kind}
+use Rattle.answers.specs.declared.Kind.the-variants.{IllegalEvent, Number as NumberKind}
 use Rattle.answers.specs.declared.Refusal.{Refusal}
-use Rattle.plant.specs.Read.{countsIn, take-padded}
+use Rattle.answers.specs.Paper.{refusedAt}
+use Rattle.plant.specs.Read.{countsIn, tableOf, take-padded}
+use Rattle.plant.specs.Written.{tableSlots, tableText}
+use Rattle.plant.specs.Promises as plants
+use Rattle.plant.specs.Promises.{accepted-formed}
 use Rattle.syntax.specs.Value.{ruleOf}
+use Rattle.rule.specs.declared.RuleRead.{RuleRead}
+use Rattle.rule.specs.Reading.{ruleRead}
+use Rattle.rule.specs.Promises as rules
 use Rattle.log.specs.declared.Event.{Event}
 use Rattle.log.specs.declared.LogRead.{LogRead}
 use Rattle.log.specs.Log.{nothing}
-use Rattle.log.specs.Read.{bytesIn, eventAt, wholeLines}
+use Rattle.log.specs.Read.{bytesIn, logRead, eventAt, wholeLines}
+use Rattle.log.specs.Promises as logs
 use Rattle.checks.specs.Input.{formula-is}
 use Rattle.sides.specs.declared.Monitor.{Monitor}
 use Rattle.sides.specs.Held.{modelOf, lampIn}
@@ -28,25 +40,28 @@ use Rattle.watching.specs.Watching as watching
 use Rattle.watching.specs.Watching.{after-model}
 use Rattle.course.specs.Course.{Course}
 use Rattle.opened.specs.declared.Opened.{Opened}
-use Rattle.transcript.specs.Said.{bytes}
+use Rattle.opened.specs.Opened.{notOpened, partsOpened, openedOf}
+use Rattle.transcript.specs.Said.{bytes, bytesOf}
 use Rattle.front_door.specs.FrontDoor.{SaysTable, SaysLog, TakenAt, RightAfter}
 use Rattle.front_door.specs.WholeLog.{SaysBare}
-use Rattle.front_door.specs.FromTexts.{value}
+use Rattle.front_door.specs.FromTexts.{value, passes-check, Answer, refuses, gives as gives-rule, answer}
 use Rattle.front_door.specs.FromLog.{input, start, behind-rule, course, course-is, log-read, taken, all-gone}
 use Rattle.front_door.specs.Lamps.{Gone, all-taken, stopped, Stop, illegal, stray, all-taken-to, behind-taken, watched}
 use Rattle.front_door.specs.OneOutput.{lit-right}
 use Rattle.neighbour.specs.declared.sent.Report.{Report}
 use Rattle.neighbour.specs.declared.Judged.{Judged}
-use Rattle.neighbour.specs.declared.Judged.the-variants.{Accepted}
+use Rattle.neighbour.specs.declared.Judged.the-variants.{Accepted, Stopped, Refused}
 use Rattle.neighbour.specs.Report.{reportOf}
 use Rattle.neighbour.specs.Judged.{judgedAt, judgedWent, judgedEnd, judgedIn, judgedFrom, judgedOf}
 use Rattle.reported.specs.Correct.{CorrectReport}
-use Rattle.reported.specs.Exactly.{accepted-exactly}
+use Rattle.reported.specs.Every.{stoppedBy, Deserves, Ends, at-end, at-event, at-number, OfLog, log-said, log-refused, OfRule, rule-said, rule-refused, OfTable, table-said, table-refused, bit-beyond, EveryReport}
+use Rattle.reported.specs.Faults.{deserved}
 use Rattle.reported.specs.Reports.{ReportsRight}
 
+-- ---- events, behind a table, a rule and a log that are said
+
 module _ (t : run.Plant) (table : AcceptedTable t) (text : List ℕ) (says : SaysTable (bytes text) t) (rule : List ℕ) (f : Formula) (rule-says : SaysBare rule (t .props) f)
-    (log : List ℕ) (es : List Event) (log-says : SaysLog (bytes log) (t .props) es) (all : (k : ℕ) → k < length es → TakenAt t es k) (claim : ℕ)
-    (keep-stem keep-loop break-stem break-loop : List ℕ) where
+    (log : List ℕ) (es : List Event) (log-says : SaysLog (bytes log) (t .props) es) (claim : ℕ) (keep-stem keep-loop break-stem break-loop : List ℕ) where
   abbrev o : Opened
   o = start t table text says rule f rule-says
 
@@ -59,15 +74,15 @@ module _ (t : run.Plant) (table : AcceptedTable t) (text : List ℕ) (says : Say
   abbrev event : ℕ → Event
   event k = getD es k nothing
 
+  abbrev report : Report
+  report = reportOf claim keep-stem keep-loop break-stem break-loop
+
   abbrev ended : (ℕ → Event) → ℕ → Monitor → Judged
-  ended e k last = judgedAt (countsIn t) (t .fair) (t .label) (t .next) (ruleOf f) e k last (reportOf claim keep-stem keep-loop break-stem break-loop)
+  ended e k last = judgedAt (countsIn t) (t .fair) (t .label) (t .next) (ruleOf f) e k last report
 
   -- how a course ends
   abbrev ending : Course → Judged
   ending c = judgedWent (c .went .outcome) (c .went) (bytesIn w log) (ended (eventAt w log) (wholeLines w log) (c .went .monitor))
-
-  abbrev report : Report
-  report = reportOf claim keep-stem keep-loop break-stem break-loop
 
   -- of the table as many parts are lent as it has
   parts-are : (last : Monitor) → judgedEnd o log last report ≡ ended (eventAt w log) (wholeLines w log) last
@@ -102,38 +117,126 @@ module _ (t : run.Plant) (table : AcceptedTable t) (text : List ℕ) (says : Say
   moved : {g h : Formula} {l : Lamp} → g ≡ h → RightAfter t g es l → RightAfter t h es l
   moved {l = l} e right = subst (λ (x : Formula). RightAfter t x es l) e right
 
-  lamp-right : RightAfter t f es (lampIn (modelOf last))
-  lamp-right =
+  lamp-right : ((k : ℕ) → k < length es → TakenAt t es k) → RightAfter t f es (lampIn (modelOf last))
+  lamp-right all =
       let given = input t table text says rule f rule-says in
       let accepted = subst (watching.AllTaken (countsIn t) (t .fair) (t .label) (t .next) (ruleOf f)) (take-length es) (all-taken-to (countsIn t) (t .fair) (t .label) (t .next) (ruleOf f) given es n all (omega arith)) in
       let shown = ap (watching.after (countsIn t) (t .fair) (t .label) (t .next) (ruleOf f)) (take-length es) ∙ after-model (countsIn t) (t .fair) (t .label) (t .next) (ruleOf f) given es accepted in
       subst (λ (x : Watched). RightAfter t f es (lampIn (modelOf (x .monitor)))) (sym shown) (moved (formula-is (value t table (rule-says .says))) (behind-taken (countsIn t) (t .fair) (t .label) (t .next) (ruleOf f) given es accepted))
 
-  exact : (ended event n last ≡ Accepted) ↔ CorrectReport t f (since (filled es)) keep-stem keep-loop break-stem break-loop claim
-  exact =
-      accepted-exactly (countsIn t) (t .fair) (t .label) (t .next) (ruleOf f) f refl (rule-says .says .small) w es event (λ k. refl) (log-says .writable) (λ k l. all k l .1) last
-      (lit-right t f (lampIn (modelOf last)) lamp-right) keep-stem keep-loop break-stem break-loop claim
+  judges : ((k : ℕ) → k < length es → TakenAt t es k) → Deserves claim keep-stem keep-loop break-stem break-loop t f (since (filled es)) (ended event n last)
+  judges all =
+      deserved (countsIn t) (t .fair) (t .label) (t .next) (ruleOf f) f refl (rule-says .says .small) w es event (λ k. refl) (log-says .writable) (λ k l. all k l .1) last
+      (lit-right t f (lampIn (modelOf last)) (lamp-right all)) keep-stem keep-loop break-stem break-loop claim
 
-  -- no event is refused
-  none-stops : (k : ℕ) → k < n → (r : Refusal) → Stop (countsIn t) (t .fair) (t .label) (t .next) (ruleOf f) (input t table text says rule f rule-says) es k r → ⊥
-  none-stops k low r (illegal bad) = bad (all k low .0)
-  none-stops k low r (stray fine bad) = bad (all k low .1)
+  -- an event is refused at the offset of its line
+  abbrev halted : Refusal → ℕ → Judged
+  halted r k = Stopped (record { refusal = refusedAt (r .kind) (lineStart (bytesIn w log) k); event = k })
 
-  right-of : (c : Course) → Gone (countsIn t) (t .fair) (t .label) (t .next) (ruleOf f) (input t table text says rule f rule-says) es n c
-      → (ending c ≡ Accepted) ↔ CorrectReport t f (since (filled es)) keep-stem keep-loop break-stem break-loop claim
-  right-of c (all-taken lamps many named as-many before right numbers is) =
-      rw is (subst (λ (j : Judged). (j ≡ Accepted) ↔ CorrectReport t f (since (filled es)) keep-stem keep-loop break-stem break-loop claim) (sym (same last)) exact)
-  right-of c (stopped k low lamps many named as-many before r why right numbers m is) = absurd (none-stops k low r why)
+  at-line : (kind : Kind) (k : ℕ) → halted (refusedAt kind 0) k ≡ stoppedBy kind t es k
+  at-line kind k = ap (λ (b : ℕ). Stopped (record { refusal = refusedAt kind (lineStart b k); event = k })) (taken t table text says rule f rule-says log es log-says .wide)
 
-  right-report : (judgedOf text rule log report ≡ Accepted) ↔ CorrectReport t f (since (filled es)) keep-stem keep-loop break-stem break-loop claim
-  right-report =
-      subst (λ (j : Judged). (j ≡ Accepted) ↔ CorrectReport t f (since (filled es)) keep-stem keep-loop break-stem break-loop claim) (sym judged-is)
-      (right-of (course t table text says rule f rule-says log) (all-gone t table text says rule f rule-says log es log-says))
+  halts : (k : ℕ) → k < n → ((m : ℕ) → m < k → TakenAt t es m) → (r : Refusal)
+      → Stop (countsIn t) (t .fair) (t .label) (t .next) (ruleOf f) (input t table text says rule f rule-says) es k r
+      → Ends claim keep-stem keep-loop break-stem break-loop t f es (halted r k)
+  halts k low before r (illegal bad) = at-event k low before bad (at-line IllegalEvent k)
+  halts k low before r (stray fine bad) = at-number k low before fine bad (at-line NumberKind k)
+
+  ends : (c : Course) → Gone (countsIn t) (t .fair) (t .label) (t .next) (ruleOf f) (input t table text says rule f rule-says) es n c
+      → Ends claim keep-stem keep-loop break-stem break-loop t f es (ending c)
+  ends c (all-taken lamps many named as-many before right numbers is) =
+      at-end before (rw is (subst (Deserves claim keep-stem keep-loop break-stem break-loop t f (since (filled es))) (sym (same last)) (judges before)))
+  ends c (stopped k low lamps many named as-many before r why right numbers m is) = rw is (halts k low before r why)
+
+  report-ends : Ends claim keep-stem keep-loop break-stem break-loop t f es (judgedOf text rule log report)
+  report-ends =
+      subst (Ends claim keep-stem keep-loop break-stem break-loop t f es) (sym judged-is)
+      (ends (course t table text says rule f rule-says log) (all-gone t table text says rule f rule-says log es log-says))
+
+-- ---- any texts
+
+module _ (text : List ℕ) (claim : ℕ) (keep-stem keep-loop break-stem break-loop : List ℕ) where
+  abbrev sent : Report
+  sent = reportOf claim keep-stem keep-loop break-stem break-loop
+
+  -- nothing but a refusal comes of texts that are not opened
+  not-opened : (rule log : List ℕ) (r : Refusal) → openedOf text rule ≡ notOpened r → judgedOf text rule log sent ≡ Refused r
+  unfolding judgedOf
+  not-opened rule log r e = ap (λ (x : Opened). judgedFrom x log sent) e
+
+  module _ (t : run.Plant) (says : SaysTable (bytes text) t) (table : AcceptedTable t) where
+    -- the table that is said is lent, part by part
+    behind-table : (rule : List ℕ) → openedOf text rule ≡ partsOpened (tableOf t) (t .fair) (t .label) (t .next) rule
+    unfolding openedOf
+    behind-table rule =
+        rw (
+          ap bytesOf (says .is),
+          plants.small-read t (says .text) (accepted-formed t table) (says .said),
+          passes-check t table,
+          take-padded 4 (length (t .fair)) (t .fair) refl (table .few-fair),
+          take-padded 64 (t .states) (t .label) (table .labels) (table .few-states),
+          take-padded 64 (t .states) (t .next) (table .nexts) (table .few-states),
+        )
+        refl
+
+    of-log : (rule : List ℕ) (f : Formula) → SaysBare rule (t .props) f → (log : List ℕ) → OfLog claim keep-stem keep-loop break-stem break-loop t f log (judgedOf text rule log sent)
+    unfolding judgedOf
+    of-log rule f rule-says log = by (logs.reading (widthOf (t .props)) log)
+      where
+        by : logs.Reading (widthOf (t .props)) log → OfLog claim keep-stem keep-loop break-stem break-loop t f log (judgedOf text rule log sent)
+        by (logs.misformed i p r) =
+            log-refused i p
+            (ap (λ (x : Opened). judgedFrom x log sent) (behind-rule t table text says rule f rule-says)
+            ∙ ap (λ (x : LogRead). judgedIn (x .outcome) (start t table text says rule f rule-says) log sent) r)
+        by (logs.accepted es ok small r at) =
+            let log-says : SaysLog (bytes log) (t .props) es = record { text = log; is = refl; said = small; writable = ok } in
+            log-said es log-says (report-ends t table text says rule f rule-says log es log-says claim keep-stem keep-loop break-stem break-loop)
+
+    of-rule : (rule log : List ℕ) → OfRule claim keep-stem keep-loop break-stem break-loop t rule log (judgedOf text rule log sent)
+    unfolding partsOpened
+    of-rule rule log = by (ruleRead (countsIn t) (t .fair) (t .label) (t .next) rule) refl (answer (countsIn t) (t .fair) (t .label) (t .next) rule)
+      where
+        by : (x : RuleRead) → ruleRead (countsIn t) (t .fair) (t .label) (t .next) rule ≡ x → Answer x → OfRule claim keep-stem keep-loop break-stem break-loop t rule log (judgedOf text rule log sent)
+        by x e (refuses kind i) =
+            rule-refused kind i (rules.refused-exactly (countsIn t) (t .fair) (t .label) (t .next) rule kind i .0 e)
+            (not-opened rule log (refusedAt kind i) (behind-table rule ∙ rw e refl))
+        by x e (gives-rule r) =
+            let takes = rules.accepted-exactly (countsIn t) (t .fair) (t .label) (t .next) rule r .0 e in
+            let rule-says : SaysBare rule (t .props) (takes .formula) = record {
+              says = record { text = rule; is = inl refl; said = takes .reads .says; short = takes .reads .short; below = takes .below; small = takes .small; few = takes .few };
+              bare = refl;
+            } in
+            rule-said (takes .formula) rule-says (of-log rule (takes .formula) rule-says log)
+
+-- ANY TEXTS, CLAIMS AND RUNS: every refusal with its cause and its place, and else the answer that the report deserves
+pub every-report : EveryReport
+unfolding openedOf
+every-report table rule log claim keep-stem keep-loop break-stem break-loop = by (plants.reading table)
+  where
+    table-says : (t : run.Plant) → smallOf (tableSlots t) table ≡ tableText t → SaysTable (bytes table) t
+    table-says t small = record { text = table; is = refl; said = small }
+
+    by : plants.Reading table → OfTable claim keep-stem keep-loop break-stem break-loop table rule log (judgedOf table rule log (reportOf claim keep-stem keep-loop break-stem break-loop))
+    by (plants.accepted t accepted small r) = let says = table-says t small in table-said t says accepted (of-rule table claim keep-stem keep-loop break-stem break-loop t says accepted rule log)
+    by (plants.beyond t formed b small r) = bit-beyond t (table-says t small) formed b (not-opened table claim keep-stem keep-loop break-stem break-loop rule log _ (rw r refl))
+    by (plants.misformed i p r) = table-refused i p (not-opened table claim keep-stem keep-loop break-stem break-loop rule log _ (rw r refl))
+
+-- WHERE ALL EVENTS ARE ACCEPTED each answer is given exactly where the report deserves it: which run is wrong and the first rule that it fails, that the verdict is wrong, 9 and 22
+pub answers-right : (table rule log : List ℕ) (t : run.Plant) (f : Formula) (es : List Event) → SaysTable (bytes table) t → AcceptedTable t → SaysBare rule (t .props) f → SaysLog (bytes log) (t .props) es
+    → ((n : ℕ) → n < length es → TakenAt t es n) → (claim : ℕ) (keep-stem keep-loop break-stem break-loop : List ℕ)
+    → Deserves claim keep-stem keep-loop break-stem break-loop t f (since (filled es)) (judgedOf table rule log (reportOf claim keep-stem keep-loop break-stem break-loop))
+answers-right table rule log t f es table-says accepted rule-says log-says all claim keep-stem keep-loop break-stem break-loop =
+    by (report-ends t accepted table table-says rule f rule-says log es log-says claim keep-stem keep-loop break-stem break-loop)
+  where
+    by : {j : Judged} → Ends claim keep-stem keep-loop break-stem break-loop t f es j → Deserves claim keep-stem keep-loop break-stem break-loop t f (since (filled es)) j
+    by (at-end before d) = d
+    by (at-event k low before bad e) = absurd (bad (all k low .0))
+    by (at-number k low before fine bad e) = absurd (bad (all k low .1))
 
 -- A REPORT IS ACCEPTED EXACTLY IF IT IS RIGHT: sound, and complete
 pub reports-right : ReportsRight
 reports-right table rule log t f es table-says accepted rule-says log-says all claim keep-stem keep-loop break-stem break-loop =
-    right-report t accepted table table-says rule f rule-says log es log-says all claim keep-stem keep-loop break-stem break-loop
+    answers-right table rule log t f es table-says accepted rule-says log-says all claim keep-stem keep-loop break-stem break-loop .accepted
 
 -- the contract leaves no choice
 pub one-report : (table rule log : List ℕ) (report : Report) {r r' : Judged} → r ≡ judgedOf table rule log report → r' ≡ judgedOf table rule log report → r ≡ r'
