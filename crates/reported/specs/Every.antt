@@ -20,7 +20,7 @@ use Rattle.plant.specs.Table.{BitBeyond}
 use Rattle.plant.specs.Text.{tableForm}
 use Rattle.plant.specs.Read.{countsIn}
 use Rattle.plant.specs.Written.{WellFormed}
-use Rattle.rule.specs.Paper.{Because}
+use Rattle.rule_text.specs.Paper.{Because}
 use Rattle.log.specs.declared.Event.{Event}
 use Rattle.log.specs.Log.{logForm}
 use Rattle.watching.specs.Filled.{filled, InTurnAt}

@@ -43,8 +43,8 @@ use Rattle.neighbour.specs.declared.Judged.{Judged}
 use Rattle.neighbour.specs.declared.Judged.the-variants.{Accepted, WrongRun, WrongVerdict, Stopped, Refused}
 use Rattle.neighbour.specs.Report.{shownOf, needsOf, tooLong, reportChecked, reportOf}
 use Rattle.neighbour.specs.Judged.{confirmedBy, decidedOf, lookedAt, reportJudged, unlessRefused, judgedAt}
-use Rattle.advance.specs.declared.Monitor.{Monitor}
-use Rattle.advance.specs.Held.{modelOf, lampIn}
+use Rattle.sides.specs.declared.Monitor.{Monitor}
+use Rattle.sides.specs.Held.{modelOf, lampIn}
 use Rattle.reported.specs.Placed.{mark-is, agrees-exactly}
 use Rattle.reported.specs.Correct.{lasso, IsShown, CorrectReport}
 use Rattle.reported.specs.Wrong.{Short, FailsFirst, WrongRunIn, WrongClaim, TooLong}

@@ -23,8 +23,8 @@ use Rattle.plant.specs.Written.{tableSlots, tableText}
 use Rattle.plant.specs.Promises as plants
 use Rattle.plant.specs.Promises.{accepted-formed}
 use Rattle.syntax.specs.Value.{ruleOf}
-use Rattle.rule.specs.declared.RuleRead.{RuleRead}
-use Rattle.rule.specs.Reading.{ruleRead}
+use Rattle.rule_text.specs.declared.RuleRead.{RuleRead}
+use Rattle.rule_text.specs.Reading.{ruleRead}
 use Rattle.rule.specs.Promises as rules
 use Rattle.log.specs.declared.Event.{Event}
 use Rattle.log.specs.declared.LogRead.{LogRead}
