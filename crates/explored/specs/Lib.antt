@@ -1,3 +1,4 @@
 pub mod Blocks
 pub mod States
+pub mod Led
 pub mod Turn

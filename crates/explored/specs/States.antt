@@ -96,10 +96,10 @@ unfolding stepOf
 step-length label next w live block k = block-length (advancedIn label next w live (monitorIn block) (eventAt k))
 
 -- a step as code takes it
-pub step-is : (label next : List ℕ) (w : Ways) (live block : List ℕ) (k : ℕ) {from made : Monitor} {e : Event} {state : List ℕ}
-    → from ≡ monitorIn block → e ≡ eventAt k → made ≡ advancedIn label next w live from e → state ≡ blockOf made → state ≡ stepOf label next w live block k
+pub step-is : (label next : List ℕ) (w : Ways) (live block : List ℕ) (k : ℕ) {made : Monitor} {state : List ℕ}
+    → made ≡ advancedIn label next w live (monitorIn block) (eventAt k) → state ≡ blockOf made → state ≡ stepOf label next w live block k
 unfolding stepOf
-step-is label next w live block k f e m s = rw (s, m, f, e) refl
+step-is label next w live block k m s = rw (s, m) refl
 
 -- from the state that is stored first
 pub opens-in : {label next : List ℕ} {w : Ways} {live : List ℕ} {c : ℕ} {room : List ℕ} {r : ℕ} (first : Monitor) (before now : List ℕ) {state : List ℕ}

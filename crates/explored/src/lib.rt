@@ -2,16 +2,20 @@
 // them share one lent slice, since two parts of one slice cannot be lent at once.
 use advance::advance;
 use answers::Lamp;
+use narrowed::narrowed;
 use pairs::Pairs;
 use sides::Monitor;
 use ways::Ways;
 ghost use mathlib.Core.Path.{_≡_};
-ghost use Prim.Native.Nat.{_+_, _*_, _<_, _≤_};
+ghost use Prim.Native.Nat.{_+_, _*_, _/_, _%_, _<_, _≤_};
 ghost use lib.ListN.{length};
 ghost use Rattle.words.specs.Below.{firstBelow};
+ghost use Rattle.advance.specs.Sides.{advancedBy};
+ghost use Rattle.columns.specs.Columns.{eventAt};
 ghost use Rattle.joined.specs.Written.{written};
 ghost use Rattle.explored.specs.Blocks.{blockAt, stored};
 ghost use Rattle.explored.specs.States.{digestTo, wordAt, blockOf, wordsFrom, monitorIn, lampNumber, answerOf, sameBlock, Answer};
+ghost use Rattle.explored.specs.Led.{Led};
 
 // Where the cells begin: behind 256 states.
 pub const CELLS: usize = 33280;
@@ -129,6 +133,35 @@ fn store(room: &mut [u64], row: usize, state: &[u64; 130])
     }
 }
 
+// The monitor after the event of a place. The first column sees nothing: there a row's moves are made, and for each other column what they led to is narrowed.
+fn next_at<'a>(
+    label: &[u16],
+    next: &[u64],
+    leave: &'a [u64; 1024],
+    enter: &'a [u64; 1024],
+    holds: &'a [u64; 64],
+    count: usize,
+    live: &[u64; 64],
+    room: &[u64],
+    c: usize,
+    place: usize,
+) -> Monitor
+    requires { ⌜ ((length (now label) ≤ 64) × (count ≤ 64)) × (1 ≤ c) × (c ≤ 54) × (place < 256 * c)
+        × Led (now label) (now next) (now leave) (now enter) (now holds) count (now live) c (now room) place ⌝ }
+    ensures { λ r. ⌜ r ≡ advancedBy (now (label .entry)) (now (next .entry)) (now (leave .entry)) (now (enter .entry)) (now (holds .entry)) count (now (live .entry))
+        (monitorIn (blockAt 130 (now (room .entry)) (place / c))) (eventAt (place % c)) ⌝ }
+{
+    let column = place % c;
+    let from = load(room, place / c);
+    let event = columns::event_at(column);
+    if from.seen & (0 < column) {
+        let first = words::entry(room, CELLS + (place - column)) as usize;
+        let wide = load(room, first);
+        return narrowed(label, holds, live, wide, event);
+    }
+    advance(label, next, leave, enter, holds, count, live, from, event)
+}
+
 // The rows reached from the state in row 0 and their cells; 0 where there are more than 256. A state that was found is stored where it stands already.
 fn fill(label: &[u16], next: &[u64], ways: Ways, live: Pairs, room: &mut [u64], c: usize) -> usize
     requires { ⌜ ((length (now label) ≤ 64) × (ways .count ≤ 64)) × (1 ≤ c) × (c ≤ 54) × (33280 + 256 * c ≤ length (now room)) ⌝ }
@@ -138,9 +171,7 @@ fn fill(label: &[u16], next: &[u64], ways: Ways, live: Pairs, room: &mut [u64], 
     let mut end = c;
     let mut place = 0;
     while place < end {
-        let from = load(room, place / c);
-        let event = columns::event_at(place % c);
-        let made = advance(
+        let made = next_at(
             label,
             next,
             &ways.leave,
@@ -148,8 +179,9 @@ fn fill(label: &[u16], next: &[u64], ways: Ways, live: Pairs, room: &mut [u64], 
             &ways.holds,
             ways.count,
             &live.words,
-            from,
-            event,
+            room,
+            c,
+            place,
         );
         let state = block_of(made);
         let row = find(room, rows, &state);
