@@ -1,0 +1,105 @@
+#!/usr/bin/env python3
+"""Prints what a fixed machine takes to make, beside the C twin, and what a look-up takes; bench/machine calls it.
+
+usage: bench/machine.py time|count ROOM ROUNDS   ROOM has machine, and count.so where instructions are counted, and gets a folder for each case.
+"""
+import os
+import re
+import subprocess
+import sys
+
+HOW, ROOM, ROUNDS = sys.argv[1], sys.argv[2], int(sys.argv[3]) if sys.argv[1] == 'time' else 1
+HOME = os.path.dirname(os.path.dirname(os.path.abspath(__file__)))
+PROGRAM, NUMBERS = os.path.join(ROOM, 'machine'), os.path.join(ROOM, 'count.txt')
+UNIT, MANY = ('ms', 1e6) if HOW == 'time' else ('millions', 1e6)
+
+
+def groups(count, labels):
+    """64 states or a few less in so many groups, each state followed by all of the next group; its labels in turn; the first group starts."""
+    size = 64 // count
+    table = 'props=3\nstates=%d\nstart=%016x\njust=0\n' % (count * size, (1 << size) - 1)
+    for state in range(count * size):
+        after = ((1 << size) - 1) << (state // size + 1) % count * size
+        table += 'label%d=%02x\nnext%d=%016x\n' % (state, state % size % labels, state, after)
+    return table
+
+
+def ring():
+    """64 states in a ring, of which the first alone has p0: two of them are told apart by going round to it."""
+    return 'props=3\nstates=64\nstart=%016x\njust=0\n' % 1 + ''.join('label%d=%02x\nnext%d=%016x\n' % (s, s == 0, s, 1 << (s + 1) % 64) for s in range(64))
+
+
+# A worked plant, or a table and a rule.
+CASES = {
+    'W': 'crates/machine/data',
+    'turbine': 'examples/turbine',
+    'ahead': (groups(1, 8), 'XXXXXXp0'),
+    'ahead-3': (groups(3, 4), 'XXXXXXp0'),
+    'groups': (groups(8, 8), 'FGp0|FGp1|FGp2'),
+    'ring': (ring(), 'p0'),
+}
+LOOKED_UP = ('W', 'turbine', 'ahead')
+
+
+def folder(name):
+    """The folder of a case."""
+    case = CASES[name]
+    if isinstance(case, str):
+        return os.path.join(HOME, case)
+    path = os.path.join(ROOM, 'machine-' + name)
+    os.makedirs(path, exist_ok=True)
+    for file, text in zip(('plant.txt', 'rule.txt'), case):
+        with open(os.path.join(path, file), 'w') as out:
+            out.write(text)
+    return path
+
+
+def run(name, mode, turns):
+    """What a run took, in ns or in instructions, what it wrote, and what it told on the error stream."""
+    words = [PROGRAM, mode, str(turns)]
+    if HOW == 'count':
+        done = subprocess.run(['qemu-x86_64', '-plugin', os.path.join(ROOM, 'count.so')] + words, cwd=folder(name), env=dict(os.environ, COUNT_FILE=NUMBERS),
+                              stdout=subprocess.PIPE, stderr=subprocess.PIPE, check=True)
+        with open(NUMBERS) as file:
+            return sum(int(line.split(' ', 1)[0]) for line in file), done.stdout, done.stderr
+    child = subprocess.Popen(words, cwd=folder(name), stdout=subprocess.PIPE, stderr=subprocess.PIPE)
+    said, told = child.stdout.read(), child.stderr.read()
+    _, status, used = os.wait4(child.pid, 0)
+    child.returncode = status
+    if status:
+        sys.exit('bench: %s failed on %s' % (' '.join(words), name))
+    return (used.ru_utime + used.ru_stime) * 1e9, said, told
+
+
+def each(name, modes, few, more, idle=()):
+    """What one turn beyond the first few takes in each mode, without what it takes in the idle one. All modes must say the same."""
+    took, heard, told = {}, {}, ''
+    for turns in (few, more):
+        for _ in range(ROUNDS):
+            for mode in modes + idle:
+                spent, said, beside = run(name, mode, turns)
+                took[mode, turns] = min(spent, took.get((mode, turns), spent))
+                told = told or beside.decode()
+                if mode in modes and heard.setdefault(turns, said) != said:
+                    sys.exit('bench: on %s %s says something else' % (name, mode))
+    one = {mode: (took[mode, more] - took[mode, few]) / (more - few) for mode in modes + idle}
+    return {mode: one[mode] - sum(one[other] for other in idle) for mode in modes}, heard[more].decode(), told
+
+
+def main():
+    print('a machine, in %s' % UNIT)
+    print('%-10s %8s %6s %10s %10s %14s' % ('case', 'states', 'rows', 'make', 'twin', 'make to twin'))
+    for name in CASES:
+        took, said, told = each(name, ('make', 'twin'), 1, 3)
+        states = re.search(r'states=(\d+)', told).group(1)
+        print('%-10s %8s %6s %10.2f %10.2f %14.2f' % (name, states, said.split()[0], took['make'] / MANY, took['twin'] / MANY, took['make'] / took['twin']), flush=True)
+    print('\nan event, in %s' % ('ns' if HOW == 'time' else 'instructions'))
+    print('%-10s %8s %8s %8s %10s %13s %16s %13s' % ('case', 'look', 'bare', 'checked', 'step', 'look to bare', 'look to checked', 'step to look'))
+    for name in LOOKED_UP:
+        took = each(name, ('look', 'bare', 'checked'), 100000, 300000, ('none',))[0]
+        step = each(name, ('step', 'look'), 100, 600, ('none',))[0]['step']
+        print('%-10s %8.1f %8.1f %8.1f %10.1f %13.2f %16.2f %13.0f' % (
+            name, took['look'], took['bare'], took['checked'], step, took['look'] / took['bare'], took['look'] / took['checked'], step / took['look']), flush=True)
+
+
+main()
