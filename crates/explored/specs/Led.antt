@@ -9,8 +9,8 @@ use lib.ListN.{length, getD, drop}
 use lib.Seq.{getD-drop}
 use Rattle.log.specs.declared.Event.{Event}
 use Rattle.ways.specs.declared.Ways.{Ways}
-use Rattle.advance.specs.declared.Monitor.{Monitor}
-use Rattle.advance.specs.Sides.{advancedBy, advancedIn}
+use Rattle.sides.specs.declared.Monitor.{Monitor}
+use Rattle.sides.specs.Sides.{advancedBy, advancedIn}
 use Rattle.narrowed.specs.Narrowed.{narrowedIn, narrowed-is, advanced-whole}
 use Rattle.columns.specs.Columns.{eventAt}
 use Rattle.explored.specs.Blocks.{blockAt}

@@ -10,7 +10,7 @@ ghost use mathlib.Core.Path.{_≡_};
 ghost use Prim.Native.Nat.{_+_, _*_, _/_, _%_, _<_, _≤_};
 ghost use lib.ListN.{length};
 ghost use Rattle.words.specs.Below.{firstBelow};
-ghost use Rattle.advance.specs.Sides.{advancedBy};
+ghost use Rattle.sides.specs.Sides.{advancedBy};
 ghost use Rattle.columns.specs.Columns.{eventAt};
 ghost use Rattle.joined.specs.Written.{written};
 ghost use Rattle.explored.specs.Blocks.{blockAt, stored};

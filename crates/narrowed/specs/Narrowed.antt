@@ -21,8 +21,8 @@ use Rattle.labels.specs.Labels.{agrees, agreeingOf}
 use Rattle.leads.specs.Halves.{fromIn, toIn}
 use Rattle.log.specs.declared.Event.{Event}
 use Rattle.log.specs.Log.{nothing}
-use Rattle.advance.specs.declared.Monitor.{Monitor}
-use Rattle.advance.specs.Sides.{sidesOf, valueIn, splitIn, splitOf, cutIn, cutOf, keptOf, movedBy, restartedBy, advancedBy}
+use Rattle.sides.specs.declared.Monitor.{Monitor}
+use Rattle.sides.specs.Sides.{sidesOf, valueIn, splitIn, splitOf, cutIn, cutOf, keptOf, movedBy, restartedBy, advancedBy}
 
 -- both sides cut to the states that agree; at a restart they are one first, and split anew
 unfoldable pub narrowedIn : List ℕ → List ℕ → List ℕ → Monitor → Event → Monitor

@@ -1,8 +1,8 @@
 // What an event leads to, by what the same monitor is led to by one that sees nothing: where a row of a fixed machine is worked out, the moves are made once for all
 // its columns.
-use advance::Monitor;
-use advance::opening::split;
-use advance::sides::kept;
+use sides::Monitor;
+use sides::opening::split;
+use sides::kept;
 use log::Event;
 ghost use mathlib.Core.Path.{_≡_};
 ghost use Prim.Native.Nat.{_≤_};
