@@ -1,9 +1,9 @@
 // What an event leads to, by what the same monitor is led to by one that sees nothing: where a row of a fixed machine is worked out, the moves are made once for all
 // its columns.
-use sides::Monitor;
-use sides::opening::split;
-use sides::kept;
 use log::Event;
+use sides::Monitor;
+use sides::kept;
+use sides::opening::split;
 ghost use mathlib.Core.Path.{_≡_};
 ghost use Prim.Native.Nat.{_≤_};
 ghost use lib.ListN.{length};
