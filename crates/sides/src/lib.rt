@@ -64,20 +64,18 @@ pub fn moved<'a>(
     requires { ⌜ count ≤ 64 ⌝ }
     ensures { λ r. ⌜ r ≡ movedBy (now (next .entry)) (now (leave .entry)) (now (enter .entry)) count (now (live .entry)) monitor agree ⌝ }
 {
-    let keeps = image(next, leave, enter, count, &monitor.keeps.words, live, agree);
-    let breaks = image(
-        next,
-        leave,
-        enter,
-        count,
-        &monitor.breaks.words,
-        live,
-        agree,
-    );
     Monitor {
         seen: true,
-        keeps,
-        breaks,
+        keeps: image(next, leave, enter, count, &monitor.keeps.words, live, agree),
+        breaks: image(
+            next,
+            leave,
+            enter,
+            count,
+            &monitor.breaks.words,
+            live,
+            agree,
+        ),
         expected: monitor.expected,
     }
 }
