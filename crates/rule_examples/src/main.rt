@@ -16,6 +16,7 @@ use libc::STDIN_FILENO;
 use libc::STDOUT_FILENO;
 use plant::Plant;
 use rule::Printed;
+use rule_text::RuleRead;
 use syntax::Rule;
 
 fn put(text: &[u8]) {
@@ -58,7 +59,7 @@ fn read(props: usize, start: u64, text: &[u8]) {
     let fair = [0u64];
     let label = [0u16, 1, 2];
     let next = [3u64, 6, 5];
-    let reading = rule::read_rule(plant, &fair[..0], &label, &next, text);
+    let reading: RuleRead = rule::read_rule(plant, &fair[..0], &label, &next, text);
     let rule = reading.rule;
     let outcome = reading.outcome;
     let mut buffer = [0u8; 109];

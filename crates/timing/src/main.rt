@@ -5,6 +5,7 @@ use files::File;
 use libc::STDOUT_FILENO;
 use pairs::Pairs;
 use plant::Plant;
+use rule_text::RuleRead;
 use sides::Monitor;
 use syntax::Rule;
 use walk::Lengths;
@@ -30,7 +31,7 @@ fn with_table(plant: Plant, fair: &[u64], label: &[u16], next: &[u64]) {
     let mut text = [0u8; File::RULE];
     let file = files::read_file(b"rule.txt", &mut text);
     let len = file.len;
-    let read = rule::read_rule(plant, fair, label, next, &text[..len]);
+    let read: RuleRead = rule::read_rule(plant, fair, label, next, &text[..len]);
     let rule = read.rule;
     let mut turns = [0u8; 47];
     files::read_file(b"turns.txt", &mut turns);

@@ -1,6 +1,7 @@
 // How runs go on in the marked examples of 01, M1 to M10, and in P, the program's own: two lines at the start and two at the end of each log.
 use answers::Outcome;
 use plant::Plant;
+use rule_text::RuleRead;
 use syntax::Rule;
 
 // Plant W of 01, whose fairness sets and moves an example may change.
@@ -12,7 +13,7 @@ fn show(name: &[u8], fair: &[u64], next: &[u64], text: &[u8], events: &[u8]) {
         just: fair.len(),
     };
     let label = [0u16, 1, 2];
-    let read = rule::read_rule(plant, fair, &label, next, text);
+    let read: RuleRead = rule::read_rule(plant, fair, &label, next, text);
     let rule: Rule = read.rule;
     let outcome: Outcome = read.outcome;
     if let Outcome::Accepted = outcome {
