@@ -6,5 +6,3 @@ pub mod Wrong
 pub mod Every
 pub mod Faults
 pub mod FromReport
-pub mod Sent
-pub mod ReadBack
