@@ -1,15 +1,15 @@
 -- What a reader finds up to a place depends on the bytes up to that place alone.
-use Prim.Native.Nat.{ℕ, zero, suc, _+_, _-_, _≤_, _<_}
+use Prim.Native.Nat.{ℕ, _+_, _-_, _≤_, _<_}
 use native.Mathlib.Omega.{arith}
 use mathlib.Core.Path.{_≡_, refl, sym, ap, subst, _∙_}
-use mathlib.Core.Bool.{Bool, true, false, _&&_, _||_, cond}
+use mathlib.Core.Bool.{Bool, true, false, _&&_, cond}
 use mathlib.Core.List.{List, [], _∷_, _++_}
 use lib.Dec.{ltb, eqb}
 use lib.ListN.{length, getD, drop, length-append, length-drop, List·getD-append}
 use lib.Seq.{drop-append-le}
 use borrow.Author.Tests.{lt-ltb}
 use Rattle.report_text.specs.declared.Cursor.{Cursor}
-use Rattle.report_text.specs.Form.{cursor, stepOf, wordFrom, isDigit, goesOn, listEnd, listTo, listOf, claimKey, verdictWord, claimBy, verdictFrom, claimOf, stemKey, loopKey, lf, refusedLine, shownRun, missing, runLine, runOf, keepsKey, breaksKey}
+use Rattle.report_text.specs.Form.{cursor, stepOf, wordFrom, isDigit, goesOn, listEnd, listTo, listOf, claimKey, verdictWord, claimBy, verdictFrom, claimOf, stemKey, loopKey, lf, refusedLine, shownRun, missing, runLine, runOf}
 use Rattle.report_promises.specs.Walk.{kindKey}
 use Rattle.report_promises.specs.Stages.{behindAll}
 

@@ -2,8 +2,7 @@
 use Prim.Native.Nat.{ℕ, suc, _+_, _≤_, _<_}
 use native.Mathlib.Omega.{arith}
 use mathlib.Core.Path.{_≡_, refl, sym, ap, subst, _∙_}
-use mathlib.Core.Logic.{inl, inr}
-use mathlib.Core.Bool.{Bool, true, false, _&&_, cond, false≢true}
+use mathlib.Core.Bool.{Bool, true, false, _&&_, false≢true}
 use mathlib.Core.List.{List, [], _∷_, _++_, append-assoc, append-nil}
 use lib.Dec.{eqb}
 use lib.ListN.{length, getD, take, drop, length-append, length-drop, take-append-drop}
@@ -13,10 +12,10 @@ use Rattle.report_text.specs.declared.Cursor.{Cursor}
 use Rattle.report_text.specs.declared.ReportParts.{ReportParts}
 use Rattle.report_text.specs.declared.ReportRead.{ReportRead}
 use Rattle.report_text.specs.declared.ReportRead.the-variants.{Report, Bad}
-use Rattle.report_text.specs.Form.{cursor, claimKey, verdictWord, claimed, claimOf, stemKey, loopKey, lf, refusedLine, runOf, keepsKey, breaksKey, partsOf, reportRead}
+use Rattle.report_text.specs.Form.{cursor, claimKey, verdictWord, claimed, stemKey, loopKey, lf, refusedLine, runOf, breaksKey, partsOf, reportRead}
 use Rattle.report_text.proofs.Whole.{read-is}
-use Rattle.report_promises.specs.Walk.{past, IsList, kindKey, Through, run-through, no-run-through, left-out-through, claim-through}
-use Rattle.report_promises.specs.ReportForm.{Line, run, no-run, left-out, textOf, Fine, IsReport, Begins, StopsAt, ReadRight, is-report, refused, PlaceRight}
+use Rattle.report_promises.specs.Walk.{past, kindKey, Through, run-through, no-run-through, left-out-through, claim-through}
+use Rattle.report_promises.specs.ReportForm.{Line, run, no-run, left-out, textOf, Fine, IsReport, Begins, ReadRight, is-report, refused, PlaceRight}
 use Rattle.report_promises.specs.Reading.{Ends, on, off}
 use Rattle.report_promises.specs.Stages.{behindAll, report-reads}
 use Rattle.report_promises.specs.Local.{ends-same}

@@ -1,8 +1,8 @@
 -- What is written as a report is read back: the claim of Sent proved.
-use Prim.Native.Nat.{ℕ, zero, suc, _+_, _≤_, _<_}
+use Prim.Native.Nat.{ℕ, zero, suc, _+_, _≤_}
 use native.Mathlib.Omega.{arith}
 use mathlib.Core.Path.{_≡_, refl, sym, ap, ap₂, subst, _∙_}
-use mathlib.Core.Logic.{_⊎_, inl, inr}
+use mathlib.Core.Logic.{inl, inr}
 use mathlib.Core.Bool.{Bool, true, false, So, _&&_, cond, false≢true}
 use mathlib.Core.List.{List, [], _∷_, _++_, append-assoc, append-nil}
 use lib.Dec.{eqb}
@@ -16,11 +16,10 @@ use Rattle.answers.specs.declared.Verdict.the-variants.{Inconclusive, True, Fal
 use Rattle.answers.specs.Paper.{numberOf}
 use Rattle.report.specs.Text.{placesFrom, decimal, word, lf, statesText}
 use Rattle.report_text.specs.declared.Cursor.{Cursor}
-use Rattle.report_text.specs.declared.RunParts.{RunParts}
-use Rattle.report_text.specs.Form.{cursor, claimKey, verdictWord, claimed, claimOf, stemKey, loopKey, refusedLine, runOf, keepsKey, breaksKey, partsOf}
-use Rattle.report_text.specs.States.{partOf, withDigit, ends, statesFrom, statesOf}
+use Rattle.report_text.specs.Form.{cursor, claimKey, verdictWord, claimed, stemKey, loopKey, refusedLine, runOf, breaksKey, partsOf}
+use Rattle.report_text.specs.States.{withDigit, ends, statesFrom, statesOf}
 use Rattle.report_text.proofs.Whole.{read-is}
-use Rattle.report_promises.specs.Sent.{Line, run, no-run, left-out, lineText, stemOf, loopOf, Bytes, reportText, Shows, ReadAs, ReadBack}
+use Rattle.report_promises.specs.Sent.{Line, run, no-run, left-out, lineText, stemOf, loopOf, Bytes, reportText, Shows, ReadBack}
 use Rattle.report_promises.specs.Walk.{past, through, through-append, IsList, kindKey, Through, run-through, no-run-through, left-out-through, claim-through}
 
 -- ---- states

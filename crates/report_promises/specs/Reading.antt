@@ -1,14 +1,14 @@
 -- How a reader of report.txt ends, from what it has read on: it goes on behind what it looked for, or it stays where the text leaves it. What was read is `p`, what is left is `r`.
-use Prim.Native.Nat.{ℕ, zero, suc, _+_, _≤_, _<_}
+use Prim.Native.Nat.{ℕ, _+_}
 use native.Mathlib.Omega.{arith}
 use mathlib.Core.Path.{_≡_, refl, sym, ap, subst, _∙_}
-use mathlib.Core.Logic.{_⊎_, inl, inr}
-use mathlib.Core.Bool.{Bool, true, false, So, _&&_, _||_, cond, false≢true}
+use mathlib.Core.Logic.{inl, inr}
+use mathlib.Core.Bool.{Bool, true, false, So, cond}
 use mathlib.Core.List.{List, [], _∷_, _++_, append-assoc, append-nil}
 use lib.Dec.{ltb, eqb}
-use lib.ListN.{length, getD, take, drop, length-append}
+use lib.ListN.{length, getD, length-append}
 use lib.Seq.{drop-append-seam, getD-append-seam}
-use borrow.Author.Tests.{lt-ltb, le-ltb, eq-eqb, eqb-true}
+use borrow.Author.Tests.{lt-ltb, le-ltb, eqb-true}
 use Rattle.words.specs.Truth.{and-says}
 use Rattle.report_text.specs.declared.Cursor.{Cursor}
 use Rattle.report_text.specs.Form.{cursor, stepOf, wordFrom, isDigit, goesOn, listEnd, listTo, listOf}

@@ -8,7 +8,6 @@ use Rattle.answers.specs.declared.Verdict.{Verdict}
 use Rattle.answers.specs.declared.Kind.the-variants.{NoPair}
 use Rattle.answers.specs.Paper.{numberOf, refusedAt}
 use Rattle.report.specs.Text.{word, lf, runText, noRunText}
-use Rattle.report_text.specs.declared.Part.{Part}
 use Rattle.report_text.specs.declared.RunParts.{RunParts}
 use Rattle.report_text.specs.declared.ReportParts.{ReportParts}
 use Rattle.report_text.specs.declared.ReportRead.the-variants.{Report}

@@ -1,14 +1,13 @@
 -- The readers of a report's lines, one behind the other: what was read is a report so far, and where the text leaves it, what was read begins one.
-use Prim.Native.Nat.{ℕ, zero, suc, _+_, _≤_, _<_, zero-le}
+use Prim.Native.Nat.{ℕ, _+_, _≤_}
 use native.Mathlib.Omega.{arith}
 use mathlib.Core.Path.{_≡_, refl, sym, ap, subst, _∙_}
 use mathlib.Core.Logic.{_⊎_, inl, inr}
 use mathlib.Core.Bool.{Bool, true, false, cond}
-use mathlib.Core.List.{List, [], _∷_, _++_, append-assoc, append-nil}
+use mathlib.Core.List.{List, [], _++_, append-assoc, append-nil}
 use lib.Dec.{eqb}
 use lib.ListN.{length, getD}
 use Rattle.report_text.specs.declared.Cursor.{Cursor}
-use Rattle.report_text.specs.declared.RunRead.{RunRead}
 use Rattle.report_text.specs.Form.{cursor, wordFrom, listOf, claimKey, verdictWord, claimBy, verdictFrom, claimOf, stemKey, loopKey, lf, refusedLine, shownRun, missing, runLine, runOf, keepsKey, breaksKey}
 use Rattle.report_promises.specs.Walk.{IsList, kindKey}
 use Rattle.report_promises.specs.ReportForm.{Line, run, no-run, left-out, textOf, Fine, IsReport, Begins}

@@ -1,14 +1,13 @@
 -- The calls of a reader put together as the definitions have them.
 use Prim.Native.Nat.{ℕ}
-use mathlib.Core.Bool.{Bool, true, false, _&&_, cond}
-use mathlib.Core.Path.{_≡_, refl, sym, ap, _∙_}
-use mathlib.Core.List.{List, []}
+use mathlib.Core.Bool.{Bool, true, _&&_, cond}
+use mathlib.Core.Path.{_≡_, refl}
+use mathlib.Core.List.{List}
 use lib.Dec.{eqb}
 use lib.ListN.{length, getD}
 use Rattle.report_text.specs.declared.Cursor.{Cursor}
 use Rattle.report_text.specs.declared.Claimed.{Claimed}
 use Rattle.report_text.specs.declared.RunRead.{RunRead}
-use Rattle.report_text.specs.declared.ReportRead.{ReportRead}
 use Rattle.report_text.specs.declared.ReportRead.the-variants.{Report, Bad}
 use Rattle.report_text.specs.Form.{cursor, wordFrom, listOf, claimKey, claimBy, verdictFrom, claimed, claimOf, part, runRead, stemKey, loopKey, lf, refusedLine, shownRun, missing, runLine, runOf, keepsKey, breaksKey, partsOf, reportRead}
 

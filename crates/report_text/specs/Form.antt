@@ -6,14 +6,13 @@
 -- LIST is states in decimal with commas between them, or nothing. Each line ends with LF.
 use Prim.Native.Nat.{ℕ, _+_}
 use mathlib.Core.Bool.{Bool, true, false, _&&_, _||_, cond}
-use mathlib.Core.List.{List, [], _∷_, _++_}
+use mathlib.Core.List.{List, [], _∷_}
 use lib.Dec.{eqb, ltb}
 use lib.ListN.{length, getD, drop}
 use Rattle.report_text.specs.declared.Cursor.{Cursor}
 use Rattle.report_text.specs.declared.Part.{Part}
 use Rattle.report_text.specs.declared.Claimed.{Claimed}
 use Rattle.report_text.specs.declared.RunRead.{RunRead}
-use Rattle.report_text.specs.declared.RunParts.{RunParts}
 use Rattle.report_text.specs.declared.ReportParts.{ReportParts}
 use Rattle.report_text.specs.declared.ReportRead.{ReportRead}
 use Rattle.report_text.specs.declared.ReportRead.the-variants.{Report, Bad}

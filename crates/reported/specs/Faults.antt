@@ -46,7 +46,7 @@ use Rattle.neighbour.specs.Judged.{confirmedBy, decidedOf, lookedAt, reportJudg
 use Rattle.sides.specs.declared.Monitor.{Monitor}
 use Rattle.sides.specs.Held.{modelOf, lampIn}
 use Rattle.reported.specs.Placed.{mark-is, agrees-exactly}
-use Rattle.reported.specs.Correct.{lasso, IsShown, CorrectReport}
+use Rattle.reported.specs.Correct.{lasso}
 use Rattle.reported.specs.Wrong.{Short, FailsFirst, WrongRunIn, WrongClaim, TooLong}
 use Rattle.reported.specs.Every.{Deserves}
 use Rattle.reported.specs.Exactly.{or-false, both-false, long-is, checked-exactly, looked-other, is-shown, shown-is, accepted-exactly}

@@ -2,7 +2,7 @@
 use Prim.Native.Nat.{ℕ, _<_}
 use native.Mathlib.Omega.{arith}
 use mathlib.Core.Path.{_≡_, refl, sym, ap, ap₂, subst, _∙_}
-use mathlib.Core.Logic.{_↔_, inl}
+use mathlib.Core.Logic.{inl}
 use mathlib.Core.List.{List}
 use lib.ListN.{length, getD, take}
 use lib.Seq.{take-length}
@@ -29,7 +29,7 @@ use Rattle.rule.specs.Promises as rules
 use Rattle.log.specs.declared.Event.{Event}
 use Rattle.log.specs.declared.LogRead.{LogRead}
 use Rattle.log.specs.Log.{nothing}
-use Rattle.log.specs.Read.{bytesIn, logRead, eventAt, wholeLines}
+use Rattle.log.specs.Read.{bytesIn, eventAt, wholeLines}
 use Rattle.log.specs.Promises as logs
 use Rattle.checks.specs.Input.{formula-is}
 use Rattle.sides.specs.declared.Monitor.{Monitor}
@@ -50,10 +50,9 @@ use Rattle.front_door.specs.Lamps.{Gone, all-taken, stopped, Stop, illegal, str
 use Rattle.front_door.specs.OneOutput.{lit-right}
 use Rattle.neighbour.specs.declared.sent.Report.{Report}
 use Rattle.neighbour.specs.declared.Judged.{Judged}
-use Rattle.neighbour.specs.declared.Judged.the-variants.{Accepted, Stopped, Refused}
+use Rattle.neighbour.specs.declared.Judged.the-variants.{Stopped, Refused}
 use Rattle.neighbour.specs.Report.{reportOf}
 use Rattle.neighbour.specs.Judged.{judgedAt, judgedWent, judgedEnd, judgedIn, judgedFrom, judgedOf}
-use Rattle.reported.specs.Correct.{CorrectReport}
 use Rattle.reported.specs.Every.{stoppedBy, Deserves, Ends, at-end, at-event, at-number, OfLog, log-said, log-refused, OfRule, rule-said, rule-refused, OfTable, table-said, table-refused, bit-beyond, EveryReport}
 use Rattle.reported.specs.Faults.{deserved}
 use Rattle.reported.specs.Reports.{ReportsRight}

@@ -1,5 +1,4 @@
 -- `report_text::read_report`: call by call.
-use mathlib.Core.Path.{_∙_}
 use borrow.Author.Needs.{needs}
 use Rattle.report_text.proofs.Whole.{read-is}
 use Rattle.report_text.proofs.read_report.Statement.{statement}

@@ -1,5 +1,5 @@
 -- `report_text::run_line`: by the byte behind the kind.
-use mathlib.Core.Path.{sym, ap, _∙_}
+use mathlib.Core.Path.{ap, _∙_}
 use borrow.Author.Needs.{needs}
 use borrow.Author.Tests.{eq-eqb, ne-eqb}
 use Rattle.report_text.specs.Form.{missing}

@@ -1,5 +1,4 @@
 -- `report_text::states::cut`: each return computes by the tests that led to it.
-use mathlib.Core.Path.{refl}
 use borrow.Author.Needs.{needs}
 use borrow.Author.Tests.{lt-ltb, le-ltb}
 use Rattle.report_text.specs.States.{partOf}

@@ -1,7 +1,6 @@
 -- `report_text::states::keep`: a byte is put, or none.
 use borrow.Author.Needs.{needs}
 use borrow.Author.Tests.{lt-ltb, le-ltb}
-use native.Mathlib.Omega.{arith}
 use Rattle.writing.specs.Put.{put-none}
 use Rattle.report_text.proofs.states.keep.Statement.{statement}
 use Rattle.report_text.proofs.states.keep.Tie as tie

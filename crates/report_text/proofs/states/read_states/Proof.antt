@@ -1,8 +1,7 @@
 -- `report_text::states::read_states`: what is kept, and the states of the rest behind it, are those of the list (`Kept`).
-use Prim.Native.Nat.{_+_, _-_, _≤_}
+use Prim.Native.Nat.{_-_}
 use mathlib.Core.Path.{refl, _∙_}
 use lib.ListN.{length}
-use native.Mathlib.Omega.{arith}
 use borrow.Author.Needs.{needs}
 use Rattle.writing.specs.Put.{put-length}
 use Rattle.report_text.proofs.Kept.{Kept, kept-start, kept-room, kept-turn, kept-end, none-read, kept-length}

@@ -1,6 +1,4 @@
 -- `report_text::states::with_digit`: each return computes by the test that led to it.
-use mathlib.Core.Path.{refl, sym, ap, _∙_}
-use native.Mathlib.Omega.{arith}
 use borrow.Author.Needs.{needs}
 use borrow.Author.Tests.{lt-ltb, le-ltb}
 use Rattle.report_text.specs.States.{withDigit}
