@@ -6,7 +6,7 @@ use mathlib.Core.Bool.{Bool, true, false, So, _&&_, cond}
 use mathlib.Core.List.{List, [], _∷_}
 use native.Mathlib.Omega.{arith}
 use native.Mathlib.Decide.{decLt}
-use borrow.Author.Tests.{ltb-true, leb-true, le-leb, lt-leb}
+use borrow.Author.Tests.{ltb-true, leb-true, lt-ltb, le-ltb, le-leb}
 use lib.Dec.{eqb, ltb, leb}
 use lib.ListN.{length, getD, List·getD-eq-default}
 use Rattle.words.specs.Word.{onlyOf}
@@ -76,26 +76,27 @@ held-low bytes width row e =
     omega (arith, ltb-true row (bytes / width) low, leb-true (bytes / width) 256 few)
 
 -- what a row shows
-module _ (machine : List ℕ) (width row : ℕ) {v l : ℕ} (verdict : v ≡ getD machine (row * width) 0) (left : l ≡ getD machine (row * width + 1) 0) where
-  pub stand-shown : (ltb row (length machine / width) && (leb v 3 && leb l 64)) ≡ true → Lookeds.Row (record { row = row; verdict = v; left = l }) ≡ standAt machine width row
+module _ (machine : List ℕ) (width row : ℕ) where
+  pub stand-beyond : {r : Refusal} → length machine / width ≤ row → r ≡ refusedAt Value 0 → Lookeds.Refused r ≡ standAt machine width row
   unfolding standAt
-  stand-shown t = rw (← verdict, ← left, t) refl
+  stand-beyond l is = rw (le-ltb row (length machine / width) l, is) refl
 
-  pub stand-none : {r : Refusal} → (ltb row (length machine / width) && (leb v 3 && leb l 64)) ≡ false → r ≡ refusedAt Value 0 → Lookeds.Refused r ≡ standAt machine width row
-  unfolding standAt
-  stand-none t e = rw (← verdict, ← left, t, e) refl
+  module _ (low : row < length machine / width) {v l : ℕ} (verdict : v ≡ getD machine (row * width) 0) (left : l ≡ getD machine (row * width + 1) 0) where
+    pub stand-shown : (leb v 3 && leb l 64) ≡ true → Lookeds.Row (record { row = row; verdict = v; left = l }) ≡ standAt machine width row
+    unfolding standAt
+    stand-shown t = rw (lt-ltb row (length machine / width) low, ← verdict, ← left, t) refl
+
+    pub stand-none : {r : Refusal} → (leb v 3 && leb l 64) ≡ false → r ≡ refusedAt Value 0 → Lookeds.Refused r ≡ standAt machine width row
+    unfolding standAt
+    stand-none t e = rw (lt-ltb row (length machine / width) low, ← verdict, ← left, t, e) refl
 
 -- what a look-up answers
 module _ (machine : List ℕ) (props row : ℕ) (e : Event) where
-  pub looked-none : {r : Refusal} → props < 1 → r ≡ refusedAt Counts 0 → Lookeds.Refused r ≡ lookedUp machine props row e
+  pub looked-none : {r : Refusal} → (leb 1 props && leb props 3) ≡ false → r ≡ refusedAt Counts 0 → Lookeds.Refused r ≡ lookedUp machine props row e
   unfolding lookedUp
-  looked-none l is = rw (lt-leb 1 props l, is) refl
+  looked-none out is = rw (out, is) refl
 
   module _ (some : 1 ≤ props) where
-    pub looked-many : {r : Refusal} → 3 < props → r ≡ refusedAt Counts 0 → Lookeds.Refused r ≡ lookedUp machine props row e
-    unfolding lookedUp
-    looked-many l is = rw (le-leb 1 props some, lt-leb props 3 l, is) refl
-
     module _ (few : props ≤ 3) {width : ℕ} (wide : width ≡ countOf props + 2) where
       pub looked-unheld : {r : Refusal} → holdsRow (length machine) width row ≡ false → r ≡ refusedAt Value 0 → Lookeds.Refused r ≡ lookedUp machine props row e
       unfolding lookedUp

@@ -1,93 +1,94 @@
 -- `look_up`: the checks one after the other, and then the row that the cell holds.
-use Prim.Native.Nat.{ℕ, _+_, _≤_, _<_}
-use mathlib.Core.Path.{_≡_, sym, ap, _∙_}
+use Prim.Native.Nat.{ℕ, _+_, _≤_}
+use mathlib.Core.Path.{_≡_, refl, ap, _∙_}
+use mathlib.Core.Bool.{Bool, true, false}
+use mir.Val.{boolByte}
 use native.Mathlib.Omega.{arith}
-use native.Mathlib.Nat.{mul-le-mul}
-use borrow.Author.Tests.{not-true, not-false}
+use lib.ListN.{getD}
+use borrow.Author.Tests.{le-ltb}
+use Rattle.words.specs.Word.{onlyOf}
+use Rattle.columns.specs.Columns.{countOf}
+use Rattle.machine_lookup.specs.Lookup.{looked-none, looked-unheld, looked-illegal, looked-there}
+use Rattle.machine_lookup.specs.Shape.{shape-some, shape-nought, shape-held, rows-hold, firstOf, first-legal, cell-there}
 use borrow.Author.Needs.{needs}
-use Rattle.columns.specs.Columns.{few-columns}
-use Rattle.machine_lookup.specs.Columns.{legal-low, six-columns}
-use Rattle.machine_lookup.specs.Lookup.{held-low, looked-none, looked-many, looked-unheld, looked-illegal, looked-there}
 use Rattle.machine_lookup.proofs.look_up.Statement.{statement}
 use Rattle.machine_lookup.proofs.look_up.Tie as tie
 
+-- a flag as a number
+flag : (b : Bool) → boolByte b ≡ onlyOf b 1
+flag true = refl
+flag false = refl
+
 returns : tie.Need-returns
-returns c = looked-none _ _ _ _ (c .before .if1 .taken) (c .at .ensures)
+returns c = looked-none _ _ _ _ (shape-nought _ _ _ (c .before .before .shape-of .ensures) (c .before .if1 .taken)) (c .at .ensures)
 
 returns-2 : tie.Need-returns-2
-returns-2 c = looked-many _ _ _ _ (c .before .before .if1 .left) (c .before .if2 .taken) (c .at2 .ensures)
-
-add-width : tie.Need-add-width
-add-width c =
-    let start = c .before .before .before .before in
-    record { fits = omega (arith, c .count .ensures, few-columns (start .args .props) .1) }
-
-holds-row-requires : tie.Need-holds-row-requires
-holds-row-requires c κs =
-    let props = c .before .before .before .before .args .props in
-    (omega (arith, c .count .ensures, six-columns props), omega (arith, c .count .ensures, few-columns props .1))
+returns-2 c =
+    let told = c .before .before .before in
+    let start = told .before .before in
+    let shaped = shape-some _ _ _ (told .shape-of .ensures) (c .before .before .if1 .left) in
+    looked-unheld _ _ _ (start .args .event) (shaped .some) (shaped .few) (shaped .wide)
+    (rows-hold _ _ _ ∙ le-ltb _ _ (rw (shaped .rows) at (c .before .if2 .taken))) (c .at2 .ensures)
 
 returns-3 : tie.Need-returns-3
 returns-3 c =
-    let told = c .before .before in
-    let start = told .before .before .before .before .before in
-    looked-unheld _ _ _ (start .args .event) (told .before .before .before .if1 .left) (told .before .before .if2 .left) (ap (λ (k : ℕ). k + 2) (told .before .count .ensures))
-    (sym (told .holds-row .ensures) ∙ not-true _ (c .before .if3 .taken)) (c .at3 .ensures)
-
-returns-4 : tie.Need-returns-4
-returns-4 c =
-    let told = c .before .before .before .before in
-    let start = told .before .before .before .before .before in
-    looked-illegal _ _ _ (start .args .event) (told .before .before .before .if1 .left) (told .before .before .if2 .left) (ap (λ (k : ℕ). k + 2) (told .before .count .ensures))
-    (sym (told .holds-row .ensures) ∙ not-false _ (c .before .before .before .if3 .left)) (sym (c .before .before .is-legal .ensures) ∙ not-true _ (c .before .if4 .taken)) (c .at4 .ensures)
+    let told = c .before .before .before .before .before in
+    let start = told .before .before in
+    let shaped = shape-some _ _ _ (told .shape-of .ensures) (c .before .before .before .before .if1 .left) in
+    let held = shape-held _ _ _ _ shaped (c .before .before .before .if2 .left) in
+    looked-illegal _ _ _ (start .args .event) (shaped .some) (shaped .few) (shaped .wide) (held .held)
+    (first-legal _ (shaped .some) (shaped .few) (start .args .event) ∙ le-ltb (firstOf (start .args .event .see) (start .args .event .val)) (countOf (start .args .props) + 2) (omega (arith, shaped .wide, c .before .before .first-of .ensures .0, c .before .if3 .taken))) (c .at3 .ensures)
 
 mul-cell : tie.Need-mul-cell
 mul-cell c =
-    let told = c .before .before .before in
-    let start = told .before .before .before .before .before in
-    let low = held-low _ _ _ (sym (told .holds-row .ensures) ∙ not-false _ (c .before .before .if3 .left)) in
-    let wide : told .before .count .result + 2 ≤ 56 = omega (arith, told .before .count .ensures, few-columns (start .args .props) .1) in
-    record { fits = omega (arith, mul-le-mul {n₁ = start .args .row} {m₁ = told .before .count .result + 2} {n₂ = 256} {m₂ = 56} (omega arith) wide) }
+    let told = c .before .before .before .before in
+    let held = shape-held _ _ _ _ (shape-some _ _ _ (told .shape-of .ensures) (c .before .before .before .if1 .left)) (c .before .before .if2 .left) in
+    record { fits = omega (arith, held .low) }
 
 add-cell : tie.Need-add-cell
 add-cell c =
-    let told = c .before .before .before in
-    let start = told .before .before .before .before .before in
-    let low = held-low _ _ _ (sym (told .holds-row .ensures) ∙ not-false _ (c .before .before .if3 .left)) in
-    let wide : told .before .count .result + 2 ≤ 56 = omega (arith, told .before .count .ensures, few-columns (start .args .props) .1) in
-    record { fits = omega (arith, mul-le-mul {n₁ = start .args .row} {m₁ = told .before .count .result + 2} {n₂ = 256} {m₂ = 56} (omega arith) wide) }
-
-column-of-requires : tie.Need-column-of-requires
-column-of-requires c κs =
-    let told = c .before .before .before in
-    legal-low (told .before .before .before .before .before .args .event) _ (told .before .before .if2 .left) (sym (c .before .is-legal .ensures) ∙ not-false _ (c .if4 .left))
+    let told = c .before .before .before .before in
+    let held = shape-held _ _ _ _ (shape-some _ _ _ (told .shape-of .ensures) (c .before .before .before .if1 .left)) (c .before .before .if2 .left) in
+    record { fits = omega (arith, held .low, c .before .first-of .ensures .1) }
 
 add-cell-2 : tie.Need-add-cell-2
 add-cell-2 c =
-    let told = c .before .before .before .before in
-    let start = told .before .before .before .before .before in
-    let low = held-low _ _ _ (sym (told .holds-row .ensures) ∙ not-false _ (c .before .before .before .if3 .left)) in
-    let wide : told .before .count .result + 2 ≤ 56 = omega (arith, told .before .count .ensures, few-columns (start .args .props) .1) in
-    record { fits = omega (arith, c .column-of .ensures .1, mul-le-mul {n₁ = start .args .row} {m₁ = told .before .count .result + 2} {n₂ = 256} {m₂ = 56} (omega arith) wide) }
+    let here = c .before in
+    let told = here .before .before .before .before in
+    let held = shape-held _ _ _ _ (shape-some _ _ _ (told .shape-of .ensures) (here .before .before .before .if1 .left)) (here .before .before .if2 .left) in
+    record { fits = omega (arith, held .low, here .before .first-of .ensures .1, bit (told .before .before .args .event .new)) }
+  where
+    bit : (b : Bool) → boolByte b ≤ 1
+    bit true = omega arith
+    bit false = omega arith
+
+shared-slice-read-stand-at : tie.Need-shared-slice-read-stand-at
+shared-slice-read-stand-at c =
+    let here = c .before .before in
+    let told = here .before .before .before .before in
+    let start = told .before .before in
+    let shaped = shape-some _ _ _ (told .shape-of .ensures) (here .before .before .before .if1 .left) in
+    cell-there _ _ _ _ (start .args .event) shaped (here .before .before .if2 .left) _ (here .before .first-of .ensures .0) (here .if3 .left) _ (flag (start .args .event .new)) .below
 
 stand-at-requires : tie.Need-stand-at-requires
 stand-at-requires c κs =
-    let told = c .before .before .before .before .before in
-    let props = told .before .before .before .before .before .args .props in
-    let byte : c .byte-at .result < 256 = search needs in
-    (omega (arith, told .before .count .ensures, six-columns props), omega (arith, told .before .count .ensures, few-columns props .1), byte)
+    let here = c .before .before in
+    let told = here .before .before .before .before in
+    let held = shape-held _ _ _ _ (shape-some _ _ _ (told .shape-of .ensures) (here .before .before .before .if1 .left)) (here .before .before .if2 .left) in
+    (held .wide, held .narrow, held .rows-are)
 
-returns-5 : tie.Need-returns-5
-returns-5 c =
+returns-4 : tie.Need-returns-4
+returns-4 c =
     let here = c .before .before .before in
-    let told = here .before .before .before in
-    let start = told .before .before .before .before .before in
-    looked-there _ _ _ (start .args .event) (told .before .before .before .if1 .left) (told .before .before .if2 .left) (ap (λ (k : ℕ). k + 2) (told .before .count .ensures))
-    (sym (told .holds-row .ensures) ∙ not-false _ (here .before .before .if3 .left)) (sym (here .before .is-legal .ensures) ∙ not-false _ (here .if4 .left))
-    (c .before .before .column-of .ensures .0) (c .before .byte-at .ensures) (c .stand-at .ensures)
+    let told = here .before .before .before .before in
+    let start = told .before .before in
+    let shaped = shape-some _ _ _ (told .shape-of .ensures) (here .before .before .before .if1 .left) in
+    let held = shape-held _ _ _ _ shaped (here .before .before .if2 .left) in
+    let cell = cell-there _ _ _ _ (start .args .event) shaped (here .before .before .if2 .left) _ (here .before .first-of .ensures .0) (here .if3 .left) _ (flag (start .args .event .new)) in
+    looked-there _ _ _ (start .args .event) (shaped .some) (shaped .few) (shaped .wide) (held .held) (cell .legal) refl (ap (λ (at : ℕ). getD (start .args .machine .now) at 0) (cell .there)) (c .stand-at .ensures)
 
 pub look-up-spec : {M : Type 1} → statement M
 look-up-spec =
     tie.close (tie.spec
-    (λ c κs. search needs) returns (λ c κs. search needs) returns-2 (λ c κs. search needs) add-width holds-row-requires (λ c κs. search needs) returns-3 (λ c κs. search needs)
-    (λ c κs. search needs) returns-4 mul-cell add-cell column-of-requires add-cell-2 (λ c κs. search needs) (λ c. search needs) stand-at-requires returns-5)
+    (λ c κs. search needs) (λ c κs. search needs) returns (λ c κs. search needs) returns-2 (λ c κs. search needs) (λ c κs. search needs) returns-3
+    mul-cell add-cell (λ c. search needs) add-cell-2 shared-slice-read-stand-at stand-at-requires returns-4)

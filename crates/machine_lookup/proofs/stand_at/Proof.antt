@@ -1,33 +1,49 @@
--- `stand_at`: a row that is one, or none.
+-- `stand_at`: a row that is none, or shows what it can, or not.
+use Prim.Native.Nat.{ℕ, _<_, _/_}
+use mathlib.Core.Path.{refl}
 use native.Mathlib.Omega.{arith}
 use native.Mathlib.Nat.{mul-le-mul}
-use Rattle.machine_lookup.specs.Lookup.{stand-shown, stand-none}
+use lib.ListN.{length}
+use Rattle.machine_lookup.specs.Lookup.{stand-beyond, stand-shown, stand-none}
+use Rattle.machine_lookup.specs.Shape.{row-within}
 use borrow.Author.Needs.{needs}
 use Rattle.machine_lookup.proofs.stand_at.Statement.{statement}
 use Rattle.machine_lookup.proofs.stand_at.Tie as tie
 
-mul-byte-at : tie.Need-mul-byte-at
-mul-byte-at c =
-    let start = c .before in
-    record { fits = omega (arith, mul-le-mul {n₁ = start .args .row} {m₁ = start .args .width} {n₂ = 256} {m₂ = 56} (omega arith) (omega arith)) }
-
-mul-byte-at-2 : tie.Need-mul-byte-at-2
-mul-byte-at-2 c =
-    let start = c .before .before in
-    record { fits = omega (arith, mul-le-mul {n₁ = start .args .row} {m₁ = start .args .width} {n₂ = 256} {m₂ = 56} (omega arith) (omega arith)) }
-
-add-byte-at : tie.Need-add-byte-at
-add-byte-at c =
-    let start = c .before .before in
-    record { fits = omega (arith, mul-le-mul {n₁ = start .args .row} {m₁ = start .args .width} {n₂ = 256} {m₂ = 56} (omega arith) (omega arith)) }
-
 returns : tie.Need-returns
-returns c = stand-shown _ _ _ (c .before .before .byte-at .ensures) (c .before .byte-at2 .ensures) (c .if1 .taken)
+returns c =
+    let start = c .before .before .before in
+    stand-beyond (start .args .machine .now) (start .args .width) (start .args .cell) (omega arith) (c .at .ensures)
+
+mul-at : tie.Need-mul-at
+mul-at c =
+    let start = c .before .before in
+    record { fits = omega (arith, mul-le-mul {n₁ = start .args .cell} {m₁ = start .args .width} {n₂ = 256} {m₂ = 56} (search needs) (omega arith)) }
+
+shared-slice-read-verdict : tie.Need-shared-slice-read-verdict
+shared-slice-read-verdict c =
+    let start = c .before .before .before in
+    omega (arith, row-within (length (start .args .machine .now)) (start .args .width) (start .args .cell) (omega arith))
+
+add-left : tie.Need-add-left
+add-left c =
+    let start = c .before .before .before in
+    record { fits = omega (arith, mul-le-mul {n₁ = start .args .cell} {m₁ = start .args .width} {n₂ = 256} {m₂ = 56} (search needs) (omega arith)) }
+
+shared-slice-read-left : tie.Need-shared-slice-read-left
+shared-slice-read-left c =
+    let start = c .before .before .before .before in
+    omega (arith, row-within (length (start .args .machine .now)) (start .args .width) (start .args .cell) (omega arith))
 
 returns-2 : tie.Need-returns-2
-returns-2 c = stand-none _ _ _ (c .before .before .before .byte-at .ensures) (c .before .before .byte-at2 .ensures) (c .before .if1 .left) (c .at .ensures)
+returns-2 c =
+    let start = c .before .before .before .before .before in
+    stand-shown (start .args .machine .now) (start .args .width) (start .args .cell) (omega arith) refl refl (c .if2 .taken)
+
+returns-3 : tie.Need-returns-3
+returns-3 c =
+    let start = c .before .before .before .before .before .before in
+    stand-none (start .args .machine .now) (start .args .width) (start .args .cell) (omega arith) refl refl (c .before .if2 .left) (c .at2 .ensures)
 
 pub stand-at-spec : {M : Type 1} → statement M
-stand-at-spec =
-    tie.close (tie.spec
-    (λ c. search needs) mul-byte-at (λ c κs. search needs) mul-byte-at-2 add-byte-at (λ c κs. search needs) returns (λ c κs. search needs) returns-2)
+stand-at-spec = tie.close (tie.spec (λ c κs. search needs) returns mul-at shared-slice-read-verdict add-left shared-slice-read-left returns-2 (λ c κs. search needs) returns-3)
