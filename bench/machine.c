@@ -4,7 +4,8 @@
 //     twin    the same work in C by the same algorithms: prepare, the states that are reached, with a row's moves made once, rows told apart round by
 //             round, numbers, bytes; it tells on the error stream how many states there are before rows are joined
 //     look    so many events, drawn by a fixed seed along the machine, looked up by the proved `jug_machine_step`
-//     checked the same in C with the same checks
+//     checked the same in C with the same checks, by a call for each event as with the library
+//     inside  the same, with the checks within the loop
 //     bare    the same in C with none: a loop over a table of bytes
 //     step    the same events by the proved `jug_step`, in a box
 //     none    the machine is made and the events are drawn, and nothing more is done
@@ -141,16 +142,30 @@ NOINLINE static size_t twin_machine(void) {
 
 typedef struct { uint64_t row, verdict, left; int refused; } Stand;
 
-NOINLINE static Stand look_up(const uint8_t *bytes, size_t len, size_t props, size_t row, Event e) {
+// Where the two cells of an event begin, a word for what it sees and a byte for what it gives: 56 where that is not legal. main fills it.
+static u64 firsts[8];
+
+// The rows of so many bytes, 0 where they are not whole rows of that width or more than 256: a share is 2^32 by the width, rounded up.
+static inline size_t rows_in(size_t len, size_t width, size_t share) {
+    if (len > width * STATES) return 0;
+    u64 shares = (u64)len * share;
+    return (shares & 0xffffffff) < share ? shares >> 32 : 0;
+}
+__attribute__((always_inline)) static inline Stand look_inside(const uint8_t *bytes, size_t len, size_t props, size_t row, Event e) {
     Stand none = {0, 0, 0, 9};
-    if (props < 1 || props > 3) return none.refused = 1, none;
-    size_t width = columns_of(props) + 2, rows = len / width;
-    if (len % width || row >= rows || rows > STATES) return none;
-    if (!is_legal(e, props)) return none.refused = 10, none;
-    size_t to = bytes[row * width + 2 + twos[e.see * 8 + e.val] * 2 + !!e.new];
+    size_t width, rows;
+    if (props == 3) width = 56, rows = rows_in(len, 56, 76695845);
+    else if (props == 2) width = 20, rows = rows_in(len, 20, 214748365);
+    else if (props == 1) width = 8, rows = rows_in(len, 8, 536870912);
+    else return none.refused = 1, none;
+    if (row >= rows) return none;
+    size_t first = (e.see | e.val) > 7 ? 56 : firsts[e.see] >> e.val * 8 & 255;
+    if (first >= width) return none.refused = 10, none;
+    size_t to = bytes[row * width + first + !!e.new];
     if (to >= rows || bytes[to * width] > 3 || bytes[to * width + 1] > 64) return none;
     return (Stand){to, bytes[to * width], bytes[to * width + 1], 0};
 }
+NOINLINE static Stand look_up(const uint8_t *bytes, size_t len, size_t props, size_t row, Event e) { return look_inside(bytes, len, props, row, e); }
 
 static Event *drawn;
 static u64 shows;
@@ -192,7 +207,11 @@ int main(int argc, char **argv) {
     size_t turns = strtoull(argv[2], NULL, 10), rows = 0, c = columns_of(p.props), row = 0, size;
     const char *mode = argv[1];
     int made = !strcmp(mode, "make") || !strcmp(mode, "twin");
-    for (size_t q = 0; q < 27; q++) twos[sees[q] * 8 + vals[q]] = q;
+    for (size_t q = 0; q < 8; q++) firsts[q] = 0x3838383838383838;
+    for (size_t q = 0; q < 27; q++) {
+        twos[sees[q] * 8 + vals[q]] = q;
+        firsts[sees[q]] ^= (56 ^ (q * 2 + 2)) << vals[q] * 8;
+    }
 #ifndef TWIN_ALONE
     if (strcmp(mode, "twin")) {
         size_t times = made ? turns : 1;
@@ -233,6 +252,10 @@ int main(int argc, char **argv) {
 #endif
     if (!strcmp(mode, "checked")) for (size_t i = 0; i < turns; i++) {
         Stand s = look_up(machine, size, p.props, row, drawn[i]);
+        row = s.row;
+        show(s.verdict, s.left);
+    } else if (!strcmp(mode, "inside")) for (size_t i = 0; i < turns; i++) {
+        Stand s = look_inside(machine, size, p.props, row, drawn[i]);
         row = s.row;
         show(s.verdict, s.left);
     } else if (!strcmp(mode, "bare")) for (size_t i = 0; i < turns; i++) {

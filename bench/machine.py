@@ -54,6 +54,17 @@ def folder(name):
     return path
 
 
+def used_by(words, name):
+    """The processor time of a run in a case's folder, in ns, and what it wrote and told."""
+    child = subprocess.Popen(words, cwd=folder(name), stdout=subprocess.PIPE, stderr=subprocess.PIPE)
+    said, told = child.stdout.read(), child.stderr.read()
+    _, status, used = os.wait4(child.pid, 0)
+    child.returncode = status
+    if status:
+        sys.exit('bench: %s failed on %s' % (' '.join(words), name))
+    return (used.ru_utime + used.ru_stime) * 1e9, said, told
+
+
 def run(name, mode, turns):
     """What a run took, in ns or in instructions, what it wrote, and what it told on the error stream."""
     words = [PROGRAM, mode, str(turns)]
@@ -62,13 +73,7 @@ def run(name, mode, turns):
                               stdout=subprocess.PIPE, stderr=subprocess.PIPE, check=True)
         with open(NUMBERS) as file:
             return sum(int(line.split(' ', 1)[0]) for line in file), done.stdout, done.stderr
-    child = subprocess.Popen(words, cwd=folder(name), stdout=subprocess.PIPE, stderr=subprocess.PIPE)
-    said, told = child.stdout.read(), child.stderr.read()
-    _, status, used = os.wait4(child.pid, 0)
-    child.returncode = status
-    if status:
-        sys.exit('bench: %s failed on %s' % (' '.join(words), name))
-    return (used.ru_utime + used.ru_stime) * 1e9, said, told
+    return used_by(words, name)
 
 
 def each(name, modes, few, more, idle=()):
@@ -86,6 +91,24 @@ def each(name, modes, few, more, idle=()):
     return {mode: one[mode] - sum(one[other] for other in idle) for mode in modes}, heard[more].decode(), told
 
 
+def natively():
+    """What a look-up takes on this processor in C alone, in ns: with the same checks by a call, with them within the loop, and with none. The modes take turns, and the least of each counts."""
+    modes, few, more = ('checked', 'inside', 'bare', 'none'), 1000000, 11000000
+    print('\nan event in C, in ns of this processor (%s)' % os.uname().machine)
+    print('%-10s %-4s %8s %8s %8s %16s %15s' % ('case', 'at', 'checked', 'inside', 'bare', 'checked to bare', 'inside to bare'))
+    for level in ('-O2', '-O3'):
+        for name in LOOKED_UP:
+            took = {}
+            for _ in range(7):
+                for mode in modes:
+                    for turns in (few, more):
+                        spent = used_by([os.path.join(ROOM, 'alone' + level), mode, str(turns)], name)[0]
+                        took[mode, turns] = min(spent, took.get((mode, turns), spent))
+            one = {mode: (took[mode, more] - took[mode, few]) / (more - few) for mode in modes}
+            checked, inside, bare = (one[mode] - one['none'] for mode in modes[:3])
+            print('%-10s %-4s %8.2f %8.2f %8.2f %16.2f %15.2f' % (name, level, checked, inside, bare, checked / bare, inside / bare), flush=True)
+
+
 def main():
     print('a machine, in %s' % UNIT)
     print('%-10s %8s %6s %10s %10s %14s' % ('case', 'states', 'rows', 'make', 'twin', 'make to twin'))
@@ -94,12 +117,13 @@ def main():
         states = re.search(r'states=(\d+)', told).group(1)
         print('%-10s %8s %6s %10.2f %10.2f %14.2f' % (name, states, said.split()[0], took['make'] / MANY, took['twin'] / MANY, took['make'] / took['twin']), flush=True)
     print('\nan event, in %s' % ('ns' if HOW == 'time' else 'instructions'))
-    print('%-10s %8s %8s %8s %10s %13s %16s %13s' % ('case', 'look', 'bare', 'checked', 'step', 'look to bare', 'look to checked', 'step to look'))
+    print('%-10s %8s %8s %8s %8s %10s %13s %16s %13s' % ('case', 'look', 'bare', 'checked', 'inside', 'step', 'look to bare', 'look to checked', 'step to look'))
     for name in LOOKED_UP:
-        took = each(name, ('look', 'bare', 'checked'), 100000, 300000, ('none',))[0]
+        took = each(name, ('look', 'bare', 'checked', 'inside'), 100000, 300000, ('none',))[0]
         step = each(name, ('step', 'look'), 100, 600, ('none',))[0]['step']
-        print('%-10s %8.1f %8.1f %8.1f %10.1f %13.2f %16.2f %13.0f' % (
-            name, took['look'], took['bare'], took['checked'], step, took['look'] / took['bare'], took['look'] / took['checked'], step / took['look']), flush=True)
+        print('%-10s %8.1f %8.1f %8.1f %8.1f %10.1f %13.2f %16.2f %13.0f' % (
+            name, took['look'], took['bare'], took['checked'], took['inside'], step, took['look'] / took['bare'], took['look'] / took['checked'], step / took['look']), flush=True)
+    natively()
 
 
 main()
