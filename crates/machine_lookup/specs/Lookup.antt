@@ -2,17 +2,13 @@
 use Prim.Native.Nat.{ℕ, _+_, _*_, _/_, _%_}
 use Prim.Native.Nat.{_≤_, _<_}
 use mathlib.Core.Path.{_≡_, refl}
-use mathlib.Core.Bool.{Bool, true, false, So, _&&_, cond}
+use mathlib.Core.Bool.{Bool, true, false, _&&_, cond}
 use mathlib.Core.List.{List, [], _∷_}
 use native.Mathlib.Omega.{arith}
-use native.Mathlib.Decide.{decLt}
-use borrow.Author.Tests.{ltb-true, leb-true, lt-ltb, le-ltb, le-leb}
+use borrow.Author.Tests.{lt-ltb, le-ltb, le-leb}
 use lib.Dec.{eqb, ltb, leb}
-use lib.ListN.{length, getD, List·getD-eq-default}
+use lib.ListN.{length, getD}
 use Rattle.words.specs.Word.{onlyOf}
-use Rattle.words.specs.Below.{allBelow}
-use Rattle.words.specs.Folds.{all-at}
-use Rattle.words.specs.Truth.{and-says}
 use Rattle.answers.specs.declared.Kind.{Kind}
 use Rattle.answers.specs.declared.Kind.the-variants.{Counts, Value, IllegalEvent}
 use Rattle.answers.specs.declared.Refusal.{Refusal}
@@ -55,25 +51,6 @@ lookedUp machine props row e =
     (cond (legalOf e props) (standAt machine width (getD machine (row * width + 2 + columnOf (e .see) (e .val) (e .new)) 0)) (refused IllegalEvent)) (refused Value)) (refused Counts)
 
 -- ---- for code
-
--- there are 27 twos of columns
-pub twos-low : (k : ℕ) → getD twos k 0 < 27
-unfolding allBelow
-twos-low k = elim (decLt k 64) [
-  | yes l ↦ ltb-true (getD twos k 0) 27 (all-at 64 (λ k. ltb (getD twos k 0) 27) all-low k l)
-  | no h ↦ rw (List·getD-eq-default twos 0 {n = k} (omega arith)) (omega arith)
-]
-  where
-    all-low : allBelow 64 (λ k. ltb (getD twos k 0) 27) ≡ true
-    all-low = refl
-
--- a row that is held is below 256
-pub held-low : (bytes width row : ℕ) → holdsRow bytes width row ≡ true → row < 256
-unfolding holdsRow
-held-low bytes width row e =
-    let (_, rest) = and-says (eqb (bytes % width) 0) (ltb row (bytes / width) && leb (bytes / width) 256) .0 e in
-    let (low, few) = and-says (ltb row (bytes / width)) (leb (bytes / width) 256) .0 rest in
-    omega (arith, ltb-true row (bytes / width) low, leb-true (bytes / width) 256 few)
 
 -- what a row shows
 module _ (machine : List ℕ) (width row : ℕ) where

@@ -1,5 +1,4 @@
 -- `first_of`: not seen, not given, or there.
-use Prim.Native.Nat.{ℕ}
 use native.Mathlib.Omega.{arith}
 use Rattle.machine_lookup.specs.Shape.{first-unseen, first-ungiven, first-there}
 use borrow.Author.Needs.{needs}

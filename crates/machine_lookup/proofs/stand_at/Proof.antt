@@ -1,5 +1,4 @@
 -- `stand_at`: a row that is none, or shows what it can, or not.
-use Prim.Native.Nat.{ℕ, _<_, _/_}
 use mathlib.Core.Path.{refl}
 use native.Mathlib.Omega.{arith}
 use native.Mathlib.Nat.{mul-le-mul}
