@@ -65,7 +65,7 @@ static void numbers(void)
     at = "events with numbers";
     jug_open(TEXT(W), TEXT("Fp1"), &one);
     other = one;
-    claim(jug_step_numbered(&one, 4294967290u, 3, 0, 0).number == 0, "the first event may have any number");
+    claim(jug_step_numbered(&one, 4294967290u, 3, 0, 0).number == 0, "a log begins at any number");
     jug_step(&other, 3, 0, 0);
     jug_answer gap = jug_step_numbered(&one, 4294967293u, 0, 0, 0);
     jug_step(&other, 0, 0, 0);

@@ -61,7 +61,7 @@ static void unseen(void)
     begin("G!p1");
     claim(is(note_numbered(7, 3, 1, 0), 0, 0, 0, JUG_OUT_OF_MODEL), "W does not start in state 1");
     begin("G!p1");
-    claim(is(note_numbered(7, 3, 0, 0), 0, 0, 1, JUG_INCONCLUSIVE), "the first event may have any number");
+    claim(is(note_numbered(7, 3, 0, 0), 0, 0, 1, JUG_INCONCLUSIVE), "a log begins at any number");
     claim(note_numbered(10, 0, 0, 1).number == 0, "two are missing before a restart");
     claim(sheet_is("first=7 events=3 verdict=inconclusive decided=-\nfirst=10 events=1 verdict=inconclusive decided=-\n"), "they belong to the stretch before");
     claim(is(note_numbered(10, 0, 0, 0), 16, 0, 0, 0) && stays(), "a number that comes again is 16");

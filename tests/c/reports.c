@@ -123,7 +123,7 @@ static void spoilt(void)
     claim(is(judged(0, &none, &breaks), 0, JUG_START, 1, JUG_WRONG_RUN), "a run with no state fails start");
     claim(is(judged(0, &keeps, &none), 0, JUG_START, 2, JUG_WRONG_RUN), "so does the second");
     x = keeps, x.states[0] = 3;
-    claim(is(judged(0, &x, &breaks), 0, JUG_START, 1, JUG_WRONG_RUN), "a first state beyond the table fails start");
+    claim(is(judged(0, &x, &breaks), 0, JUG_START, 1, JUG_WRONG_RUN), "a run can't start in a state that there is not");
     x = keeps, x.states[0] = 1;
     claim(is(judged(0, &x, &none), 0, JUG_START, 1, JUG_WRONG_RUN), "1 does not start, and the first run is told first");
     x = keeps, x.states[1] = 200;

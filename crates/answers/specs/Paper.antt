@@ -1,4 +1,4 @@
--- 01's number and values for each case of an answer; the promises are made in these.
+-- What an answer is on paper, case by case (01, Refusal numbers, and 01, The shape each place takes); the promises are made in these numbers.
 use Prim.Native.Nat.{ℕ}
 use mathlib.Core.Bool.{Bool, true, false}
 use mathlib.Core.List.{List, []}
@@ -52,7 +52,7 @@ numberOf True = 1
 numberOf False = 2
 numberOf OutOfModel = 3
 
--- 01's table of refusals, and those of 02's requests
+-- 1 to 14 are of 01, Refusal numbers, the others of 02's requests
 abbrev pub kindNumber : Kind → ℕ
 kindNumber Counts = 1
 kindNumber Bits = 2

@@ -44,7 +44,7 @@ use Rattle.answers.specs.declared.Outcome.the-variants as Outcomes
 use Rattle.answers.specs.declared.Refusal.{Refusal}
 use Rattle.answers.specs.Paper.{Paper, verdict, refused, accepted, numberOf, kindNumber, refusal, paper, outcome, verdictFor}
 
--- the verdict that a call shows has the number that 01 gives it
+-- the verdict that a call shows has its number (01, The monitor's state)
 pub verdict-number : (keeps breaks : Bool) → numberOf (verdictFor keeps breaks) ≡ verdictOf keeps breaks
 unfolding verdictOf
 verdict-number true true = refl

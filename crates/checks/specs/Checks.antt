@@ -1,4 +1,4 @@
--- What the calls that take a rule value answer before they do anything: 01's checks 1, 2 and 9, one after the other.
+-- What the calls that take a rule value answer before they do anything: checks 1, 2 and 9, one after the other (01, Refusal numbers).
 use Prim.Native.Nat.{ℕ}
 use mathlib.Core.Bool.{Bool}
 use mathlib.Core.List.{List}

@@ -29,7 +29,7 @@ use Rattle.closing.specs.declared.Closed.the-variants.{At, Stopped, Refu
 use Rattle.last_stretch.specs.declared.Found.{Found}
 use Rattle.last_stretch.specs.Stretch.{foundOf}
 
--- 01's numbers, and 02's two
+-- the numbers of the four verdicts (01, The monitor's state), and two more (02, k)
 abbrev pub closingNumber : ClosingVerdict → ℕ
 closingNumber Inconclusive = 0
 closingNumber True = 1

@@ -1,4 +1,4 @@
--- FOR EVERY CUTTING: scraps heard one after the other, by the call, give the verdicts, the refusal with its place and the end state that their bytes give at once.
+-- FOR EVERY CUTTING: scraps heard one after the other, by the call, lead to what their bytes lead to at once: verdicts, a refusal and where it points, and the radio at the end.
 use Prim.Native.Nat.{ℕ, _+_, _^_, _≤_, _<_, zero-le}
 use native.Mathlib.Omega.{arith}
 use mathlib.Core.Path.{_≡_, refl, sym, ap, ap₂, subst, _∙_}

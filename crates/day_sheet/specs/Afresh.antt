@@ -1,4 +1,4 @@
--- THE DAY SHEET OF EVENTS (02, n), worked out afresh from the list with the unseen ones put in. With stretches/specs/Afresh this is what must be believed of it.
+-- THE DAY SHEET OF EVENTS (02, n), worked out afresh from all events, lost ones among them. With stretches/specs/Afresh this is what must be believed of it.
 use Prim.Native.Nat.{ℕ, _+_, _-_}
 use mathlib.Core.Bool.{Bool, true, false, not}
 use mathlib.Core.List.{List, [], _∷_, _++_}

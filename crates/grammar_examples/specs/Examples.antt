@@ -1,4 +1,4 @@
--- The worked examples of 01, computed.
+-- The texts of 01, Marked examples, computed.
 use mathlib.Core.Path.{_≡_, refl}
 use mathlib.Core.List.{[], _∷_}
 use Rattle.meaning.specs.Formula.{prop, neg, until, and, implies}

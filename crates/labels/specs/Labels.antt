@@ -36,7 +36,7 @@ pub bit-agreeing : (label : List ℕ) (see val s : ℕ) → s < length label →
 unfolding agreeingOf
 bit-agreeing label see val s h = word-at (length label) _ s h
 
--- it agrees where each proposition seen has the label's value
+-- it agrees where what was seen is as the label has it
 module _ (see val l : ℕ) where
   bit-differing : (p : ℕ) → bit (bitAnd (bitXor l val) see) p ≡ (bit see p && not (Bool·beq (bit val p) (bit l p)))
   bit-differing p = rw (bit-and, bit-xor, beq-comm (bit val p)) (and-comm (not (Bool·beq (bit l p) (bit val p))) (bit see p))

@@ -1,4 +1,4 @@
--- What `prepare` answers: 01's checks, and behind them the live set of the table and the rule.
+-- What `prepare` answers: the checks (01, Refusal numbers), and behind them the live set of the table and the rule.
 use Prim.Native.Nat.{ℕ}
 use mathlib.Core.List.{List}
 use lib.ListN.{replicate}

@@ -1,4 +1,4 @@
--- 01's line, one with a capital digit, one with four digits and one with a number, by computing.
+-- The line that 01 shows (Log and program), one with a capital digit, one with four digits and one with a number, by computing.
 use mathlib.Core.Path.{_≡_, refl}
 use mathlib.Core.Bool.{true, false}
 use mathlib.Core.List.{[], _∷_}

@@ -170,7 +170,7 @@ accepted-small w s = (
   λ (es, ok, e). ap outcomeOf (small-read w es s ok e .0),
 )
 
--- refused by 12 exactly at the place that 01 names: the first byte at which no log begins with what was read, the length where it only stops too soon
+-- refused by 12 exactly at its place (01, Refusal numbers): the first byte at which no log begins with what was read, the length where it only stops too soon
 pub twelve-exactly : (w : ℕ) (s : List ℕ) (i : ℕ) → (logRead w s ≡ refusedLog i) ↔ RefusedAt (logForm w) s i
 twelve-exactly w s i = (λ e. there e (reading w s), λ p. back p (reading w s))
   where

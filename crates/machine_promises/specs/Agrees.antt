@@ -94,7 +94,7 @@ module _ (p : Plant) (fair label next : List ℕ) (rule : Rule) (given : Input p
       leads-there es rest (model.stepOf T f (liveSet T f) m (eventOf (getD (columnsOf (p .props)) (columnFor e) nothing)))
       ∙ ap (λ (x : meaning.Event). foldl (model.stepOf T f (liveSet T f)) (model.stepOf T f (liveSet T f) m x) (map eventOf es)) (column-is e ok)
 
-  -- MACHINE AND STEPPING AGREE on every accepted log without gaps, and so after each event of it
+  -- THE MACHINE ANSWERS AS STEPPING DOES (02, g): on each log that is accepted and has no gap, and so after each event of it
   pub machine-agrees : {m : Machine} → MadeFor T f m → (es : List Event) → AllTaken p fair label next rule es → WithoutGaps es
       → AgreesOn (after p fair label next rule es .answer) m es
   unfolding model.runOf

@@ -248,7 +248,7 @@ module _ (p : Plant) (fair label next : List ℕ) (rule : Rule) (given : Input p
     pub never-refused : (r : ℕ) → r < size .rows → (e : Event) → So (legalOf e (p .props)) → (s : Stand) × (lookedUp (bytesOf size new) (p .props) r e ≡ Lookeds.Row s)
     never-refused r l e ok = let (m, stands, rows) = wrote in row-found stands r (rw rows l) e ok
 
-    -- LOOK-UPS AND STEPPING AGREE on every accepted log, and so after each event of it; an event that is lost is looked up as one that sees nothing
+    -- LOOK-UPS ANSWER AS STEPPING DOES, on each log that is accepted, and so after each event of it; an event that is lost is looked up as one that sees nothing
     pub look-ups-agree : (es : List Event) → AllTaken p fair label next rule es → ShowsAs (after p fair label next rule es .answer) (lookedThrough (bytesOf size new) (p .props) (lostPutIn es))
     look-ups-agree es taken =
         let (m, stands, _) = wrote in

@@ -41,7 +41,7 @@ pub record Proper (c : ℕ) (m : Machine) : Type 0 where
 abbrev pub Reached : ℕ → Machine → ℕ → Type 0
 Reached c m r = (w : List ℕ) × Columns c w × (run m 0 w ≡ r)
 
--- going through rows and then columns in order, the cell at row q and column j comes before that at row r and column k
+-- row by row, and in a row column by column, the cell at row q and column j comes before that at row r and column k
 abbrev pub Before : ℕ → ℕ → ℕ → ℕ → Type 0
 Before q j r k = (q < r) ⊎ ((q ≡ r) × (j < k))
 

@@ -1,4 +1,4 @@
--- The marked examples of 01 and the lines of its program's example, from the bytes of their texts to the lamp: one table under one claim about the calls. M9 is as request e has it.
+-- M1 to M10 (01, Marked examples) and the lines of the program's example (01, Log and program), from the bytes of their texts to the lamp: one table under one claim about the calls. M9 is as request e has it.
 use Prim.Native.Nat.{ℕ}
 use Prim.Native.Char.{code}
 use Prim.Native.String.{String}

@@ -22,7 +22,7 @@ use Rattle.model.specs.Means.{Means, means-run}
 use Rattle.model.specs.Shown.{occupied-says, verdict-means, left-means}
 use Rattle.model.specs.Witness.{Witness, witness-joined}
 
--- a second log of the same restarts, that sees at each event all that the first sees, with the same values
+-- a second log of the same restarts, each event of which sees no less than the first log's, and nothing otherwise
 abbrev pub FinerLog : List Event → List Event → Type 0
 FinerLog = Forall₂ (λ e e'. (e .new ≡ e' .new) × Finer (e .seen) (e' .seen))
 

@@ -1,4 +1,4 @@
--- The marked examples of 01, as one table under one claim, computed from the definitions.
+-- M1 to M10 (01, Marked examples), as one table under one claim, computed from the definitions.
 use Prim.Native.Nat.{ℕ}
 use mathlib.Core.Path.{_≡_, refl}
 use mathlib.Core.List.{List, [], _∷_, map}
@@ -69,7 +69,7 @@ marked =
     ∷ row W (finally (prop 0)) (see 3 0 ∷ see 0 0 ∷ see 2 2 ∷ []) (1 ∷ 1 ∷ [])
     ∷ []
 
--- the definitions show what 01 says
+-- each row shows by the definitions what it says
 pub marked-shown : map shown marked ≡ map (λ r. r .shows) marked
 unfolding bit anyBelow countBelow unionBelow listBelow wordOf filled wordsBelow statesOf leftOf sameOf postOf reachedAt preOf leadingAt agreeingOf parts value table fit settled every settle leaving entering from to joinOf leadingOf meetOf before widen reaching goalSets narrow allPairs liveSet holding opensAt opening sourceAt keptOf stepOf runOf verdictOf verdict left
 marked-shown = refl

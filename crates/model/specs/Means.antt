@@ -22,7 +22,7 @@ use Rattle.model.specs.Monitor.{Monitor, side, opening, stepOf, runOf}
 use Rattle.meaning.specs.Step.{Opens, Led, Source}
 use Rattle.model.specs.Rule.{In, opening-rule, step-rule, step-sets, opening-sets}
 
--- whether an event came; if so, the rule is judged from the position of one
+-- whether an event came; if so, the mark is the position of one of them
 abbrev pub Begun : Bool → History → Type 0
 Begun true h = h .mark < length (h .events)
 Begun false h = h ≡ none

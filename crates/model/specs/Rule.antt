@@ -1,4 +1,4 @@
--- The step rule of 01, for any live set and any state handed in: which pairs the opening and a step hold.
+-- The step rule (01, The monitor's state), for any live set and any state handed in: which pairs the opening and a step hold.
 use Prim.Native.Nat.{ℕ, _^_, _≤_, _<_}
 use native.Mathlib.Omega.{arith}
 use mathlib.Core.Path.{_≡_, refl}

@@ -1,4 +1,4 @@
--- Witnesses: a fair lasso by which a pair of the asked set is live, and what it is joined with the walk that led there.
+-- Witnesses: a fair lasso that shows a pair of a set to be live, and what it is behind the walk that led there.
 use Prim.Native.Nat.{ℕ, _≤_, _<_}
 use native.Mathlib.Omega.{arith}
 use mathlib.Core.Path.{_≡_}
@@ -83,7 +83,7 @@ module _ (T : Plant) (f : Formula) (A : AcceptedTable T) (small : Small f) where
         loop = rw length-map loop;
       }
 
-  -- after events, some walk that agrees with them leads to the witness, and the two, joined, are a run of the asked kind
+  -- after events, some walk that agrees with them leads to the witness, and the one behind the other is a run of that kind
   pub witness-joined : (m : Monitor) (h : History) → Means T f m h → (b : Bool) (L : Lasso) → Witness T f (side m b) L
       → (walk : List ℕ) × (length walk ≡ now h) × Chosen T f b h (walkThen walk L)
   witness-joined m h k b L w =

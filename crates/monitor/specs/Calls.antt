@@ -1,4 +1,4 @@
--- What the calls on a monitor answer: 01's checks in their order, and behind them the monitor of `model`, which its theorems speak of.
+-- What the calls on a monitor answer: the checks in their order (01, Refusal numbers), and behind them the monitor of `model`, which its theorems speak of.
 use Prim.Native.Nat.{ℕ, _+_, _^_}
 use mathlib.Core.Bool.{Bool, false, _&&_, not}
 use mathlib.Core.List.{List, foldl}

@@ -51,7 +51,7 @@ module _ (p : Plant) (fair label next : List ℕ) (rule : Rule) where
   abbrev f : Formula
   f = formula p fair label next rule
 
-  -- A REFUSAL gives its number and place, and the monitor stays
+  -- A REFUSAL tells its number and its place, and leaves the monitor
 
   pub open-refused : (live : Pairs) (r : Refusal) → checkedOf p fair label next rule (pairsOk T f (live .words)) ≡ Refused r
       → openCall p fair label next rule live ≡ record { answer = Answers.Refused r; monitor = noMonitor }

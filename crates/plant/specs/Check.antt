@@ -1,4 +1,4 @@
--- What the table's check says: accepted exactly if the table is one that 01 accepts; refused by 1 exactly if a count or a length is wrong, by 2 exactly if
+-- What the table's check says: accepted exactly if the table is as `AcceptedTable` says (meaning/specs/Limits); refused by 1 exactly if a count or a length is wrong, by 2 exactly if
 -- these are right and some bit names a state or a proposition beyond the counts.
 use Prim.Native.Nat.{ℕ, zero, suc, _+_, _-_, _/_, _^_, _≤_, _<_}
 use mathlib.Core.Path.{_≡_, refl, sym, ap, _∙_}

@@ -1,4 +1,4 @@
--- 01's plant W, and its text, by computing.
+-- Plant W, and its text (01, The plant table), by computing.
 use mathlib.Core.Path.{_≡_, refl}
 use mathlib.Core.List.{List, [], _∷_, _++_}
 use Prim.Native.Nat.{ℕ}

@@ -169,7 +169,7 @@ two-exactly s = (λ e. by-case e (reading s), λ (t, w, b, e). small-read t s w 
     by-case e (beyond t w b f r) = (t, w, b, f)
     by-case e (misformed i p r) = differ _ _ (λ n. omega arith) (ap outcomeOf e) (ap outcomeOf r)
 
--- refused by 3 exactly at the place that 01 names: the first byte at which no text of the form begins with what was read, the length where it only stops too soon
+-- refused by 3 exactly at its place (01, Refusal numbers): the first byte at which no text of the form begins with what was read, the length where it only stops too soon
 pub three-exactly : (s : List ℕ) (i : ℕ) → (tableRead s ≡ refusedRead (refusedAt TableText i)) ↔ RefusedAt tableForm s i
 three-exactly s i = (λ e. there e (reading s), λ p. back p (reading s))
   where

@@ -42,7 +42,7 @@ bitsOf p fair label next = ltb (bitOr (bitOr (p .start) (united fair)) (united n
 abbrev pub tableOutcome : Plant → List ℕ → List ℕ → List ℕ → Outcome
 tableOutcome p fair label next = cond (countsOf p (length fair) (length label) (length next)) (cond (bitsOf p fair label next) Accepted (refusedAs Bits)) (refusedAs Counts)
 
--- ---- what 01 says
+-- ---- what a table must be (01, The plant table, and 01, Refusal numbers)
 
 -- the counts are in range
 pub record InRange (p : Plant) : Type 0 where

@@ -93,7 +93,7 @@ module _ (p : Plant) (fair label next old : List ℕ) where
           size = ap length is ∙ omega (arith, length-append (tableText table) (drop (length (tableText table)) old), length-drop (length (tableText table)) old);
         }
 
-    -- READING WHAT WAS WRITTEN GIVES THE SAME TABLE
+    -- WHAT WAS WRITTEN IS READ AS THE TABLE HANDED IN (02, b)
 
     -- it is accepted
     pub written-read : tableRead (take (l .bytes) after) ≡ record { outcome = Accepted; table = tableOf table }

@@ -1,4 +1,4 @@
--- 01's step rule, said of the calls: for ANY live set and state handed in, an accepted `open` or `step` holds exactly the pairs that the rule of meaning/specs/Step asks for, taken for
+-- The step rule (01, The monitor's state), said of the calls: for ANY live set and state handed in, an accepted `open` or `step` holds exactly the pairs that the rule of meaning/specs/Step asks for, taken for
 -- each event that is missing and then for the one that came (02, h), and what it shows goes by its two sets alone. Nothing here asks that the live set was prepared, or that the state
 -- was reached by events.
 use Prim.Native.Nat.{ℕ, zero, suc, _+_, _≤_, _<_}

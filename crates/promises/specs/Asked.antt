@@ -1,4 +1,4 @@
--- What the other calls answer behind a log (01, demand 3): `look` shows the lamp once more; and `witness`, lent a buffer of the room it asks for, writes a run of the asked
+-- What the other calls answer behind a log (promise 3 of docs/PROMISES.md): `look` shows the lamp once more; and `witness`, lent a buffer of the room it asks for, writes a run of the asked
 -- kind where there is one, and is refused by 13 where there is none.
 use Prim.Native.Nat.{ℕ, _+_, _^_, _≤_, _<_}
 use native.Mathlib.Omega.{arith}

@@ -1,4 +1,4 @@
-// Reads the tokens of a rule's text into a rule. A level of the grammar is a function; the levels call each other in a cycle.
+// Reads the tokens of a rule's text into a rule. A level of the grammar is a function, and they call one another round (01, Rule text).
 use syntax::Node;
 use syntax::Op;
 use syntax::Rule;

@@ -99,7 +99,7 @@ module _ (p : Plant) (fair label next : List ℕ) (rule : Rule) where
   abbrev pub OutOfTurn : Monitor → Event → Type 0
   OutOfTurn m e = InTurn (m .seen) (m .expected) (numberOf (e .num) (m .expected)) → ⊥
 
-  -- 13: no pair of the asked set is live
+  -- 13: the set that is asked for has no live pair
   abbrev pub NoLive : Monitor → Bool → Type 0
   NoLive m keeps = (s v : ℕ) → So (inside (side (modelOf m) keeps) s v) → Live table formula s v → ⊥
 

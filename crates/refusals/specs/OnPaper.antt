@@ -1,4 +1,4 @@
--- Two answers of write_table, of print_rule, or of witness, that stand for the same on paper are equal, as those of the other calls are (answers/proofs/One).
+-- Two answers of write_table, of print_rule, or of witness, that stand for the same on paper are equal, as those of the other calls are (answers/specs/Promises).
 use mathlib.Core.Path.{_≡_, sym, ap}
 use Rattle.answers.specs.Promises.{one-refusal}
 use Rattle.plant_writer.specs.declared.Wrote.{Wrote}

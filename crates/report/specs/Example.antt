@@ -1,4 +1,4 @@
--- The definitions at work: on lines of 01, and on those of runs.
+-- The definitions at work: on lines of the program (01, Log and program), and on those of runs.
 use mathlib.Core.Path.{_≡_, refl}
 use mathlib.Core.Bool.{true, false}
 use mathlib.Core.List.{[], _∷_}

@@ -1,5 +1,5 @@
--- The positions of a log's events are those that they have in the list with the unseen ones put in, and the mark is the last restart's: so a run agrees with the events, each at
--- its position, exactly if it agrees with that list.
+-- The positions of a log's events are those that they have where the lost ones are counted too, and the mark is the last restart's: so a run agrees with the events, each at
+-- its position, exactly if it agrees with the whole list.
 use Prim.Native.Nat.{ℕ, zero, suc, _+_, _-_, _≤_, _<_}
 use native.Mathlib.Omega.{arith}
 use mathlib.Core.Path.{_≡_, refl, sym, ap, subst, _∙_}

@@ -1,6 +1,6 @@
 -- What the calls on rules promise. Their contracts are equations: read_rule answers `ruleRead`, is_valid `validOf`, print_rule `printAnswer`, and leaves `printBuffer`.
--- What these mean is said here in 01's words: `syntax/specs/Grammar` says what a text of the grammar is (`SaidBy f s`: the rule f is said by the text s), `syntax/specs/Value` what a rule's
--- value is (`ruleOf f`), `specs/Paper` what each refusal is given for (`Because`), and what it is for a text to be accepted (`Takes`).
+-- What these mean is said here by short definitions (01, Rule text): `syntax/specs/Grammar` says what a text of the grammar is (`SaidBy f s`: the rule f is said by the text s), `syntax/specs/Value` what a rule's
+-- value is (`ruleOf f`), `rule_text/specs/Paper` what each refusal is given for (`Because`), and what it is for a text to be accepted (`Takes`).
 use Prim.Native.Nat.{ℕ, _≤_, _<_}
 use mathlib.Core.Path.{_≡_, refl, sym, ap, subst, _∙_}
 use mathlib.Core.Logic.{_↔_}
@@ -50,7 +50,7 @@ module _ (p : Plant) (fair label next : List ℕ) where
   pub accepted-exactly : (s : List ℕ) (r : Rule) → (ruleRead p fair label next s ≡ accepted r) ↔ Takes p fair label next s r
   accepted-exactly s = answering.accepted-exactly p fair label next s
 
-  -- each refusal is given exactly if 01 says so, at the place that 01 says, and in 01's order
+  -- each refusal is given exactly for its cause, at its place, and in its turn (01, Refusal numbers)
   pub refused-exactly : (s : List ℕ) (kind : Kind) (k : ℕ) → (ruleRead p fair label next s ≡ noRule kind k) ↔ Because p fair label next s kind k
   refused-exactly s = answering.refused-exactly p fair label next s
 

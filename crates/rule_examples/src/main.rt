@@ -1,4 +1,4 @@
-// 01's examples of rule texts and values, and bad ones: a line for each, with what was asked and what came. The file `stdout` has the answers worked out by hand from 01.
+// Rule texts (01, Marked examples) and values, and bad ones: a line for each, with what was asked and what came. The file `stdout` has the answers worked out by hand from 01.
 //
 // A case is a line of the input. Without a `#` it is a text for plant W: how operators bind and group; what is not of the grammar; propositions that the table has
 // not, and sizes, 5 before 6, 6 before 7, 7 before 8. Otherwise it has fields with `#` between them: what is asked, in words; a letter; and for

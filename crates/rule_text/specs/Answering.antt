@@ -1,4 +1,4 @@
--- Each answer of read_rule is given exactly for what 01 gives it for.
+-- Each answer of read_rule is given exactly for its cause, as Paper has it.
 use Prim.Native.Nat.{ℕ}
 use mathlib.Core.Path.{_≡_, refl, sym, ap, subst, _∙_}
 use mathlib.Core.Logic.{_↔_, ⊎-elim}

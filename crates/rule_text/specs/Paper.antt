@@ -1,4 +1,4 @@
--- 01's words on a rule's text: what each answer of read_rule is given for.
+-- What each answer of read_rule is given for (01, Rule text, and 01, Refusal numbers).
 use Prim.Native.Nat.{ℕ, _≤_, _<_}
 use mathlib.Core.Path.{_≡_}
 use mathlib.Core.List.{List}
@@ -34,7 +34,7 @@ pub record Takes (p : Plant) (fair label next s : List ℕ) (r : Rule) : Type 0 
   pub few : parts formula ≤ mostParts
   pub is : r ≡ ruleOf formula
 
--- 01's table, a row for each refusal: what it is given for, where no row before it applies, and at which place
+-- a row for each refusal (01, Refusal numbers): what it is given for, where no row before it applies, and at which place
 pub data Because (p : Plant) (fair label next s : List ℕ) : Kind → ℕ → Type 0 where
   counts : (Lengths p (length fair) (length label) (length next) → ⊥) → Because p fair label next s Counts 0
   bits : Lengths p (length fair) (length label) (length next) → BitBeyond p fair label next → Because p fair label next s Bits 0

@@ -1,4 +1,4 @@
--- What reading a rule's text answers: each check of 01, in its order.
+-- What reading a rule's text answers: the checks one after the other (01, Refusal numbers).
 use Prim.Native.Nat.{ℕ, _+_}
 use mathlib.Core.List.{List, [], _∷_}
 use mathlib.Core.Bool.{Bool, false, _&&_, cond}

@@ -1,4 +1,4 @@
-// A rule's text: the checks in 01's order, and then the reader.
+// A rule's text: the checks in their order (01, Refusal numbers), and then the reader.
 use answers::Kind;
 use answers::Outcome;
 use answers::Refusal;

@@ -112,7 +112,7 @@ module _ (p : Plant) (fair label next : List ℕ) (rule : Rule) (live : Pairs) (
   abbrev pub standing : List ℕ → Outcome
   standing log = andThen (eventStop log) (soFar (length log) (logRead w log .outcome))
 
-  -- what the scraps of a log have given: a verdict for each event that was taken; the monitor behind these; the refusal that stands, with its place in the whole log; and what the end
+  -- what the scraps of a log have given: a verdict for each event that was taken; the monitor behind these; the refusal that stands, placed by all bytes that came; and what the end
   -- says, where the last line may be one that is not whole
   pub record LineByLine (ss : List Scrap) : Type 0 where
     pub verdicts-are : written ss ≡ verdictBytes (courseBy (text ss) .lamps)
@@ -141,7 +141,7 @@ module _ (p : Plant) (fair label next : List ℕ) (rule : Rule) (live : Pairs) (
   TakesNothing = (ss : List Scrap) → Given ss → behind ss .standing ≡ Accepted → (s : Scrap) (x : Refusal)
       → andThen (unless (leb (linesIn (s .bytes)) (s .room)) Room) (unless (leb (length (text (ss ++ s ∷ []))) longest) LogLength) ≡ Outcomes.Refused x → oneMore ss s ≡ nothingTaken x (behind ss)
 
-  -- behind a refused event or byte any scrap at all, and the end, gets the same refusal
+  -- what was refused once is what any scrap behind it is told, and the end too
   abbrev pub Sticks : Type 0
   Sticks = (ss : List Scrap) → Given ss → (x : Refusal) → behind ss .standing ≡ Outcomes.Refused x
       → ((s : Scrap) → oneMore ss s ≡ nothingTaken x (behind ss)) × (endBehind ss ≡ Outcomes.Refused x)

@@ -36,7 +36,7 @@ use Rattle.front_door.specs.WholeLog.{SaysBare, bufferOf}
 abbrev pub eventAt : List Event → ℕ → Event
 eventAt es n = getD es n nothing
 
--- the second event sees all that the first sees, with the same values
+-- the second event sees no less than the first, and nothing otherwise
 abbrev pub SeesAll : Event → Event → Type 0
 SeesAll e e' = (q : ℕ) → So (bit (e .see) q) → So (bit (e' .see) q) × (bit (e .val) q ≡ bit (e' .val) q)
 

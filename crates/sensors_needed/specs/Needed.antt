@@ -1,5 +1,5 @@
 -- EACH HYPOTHESIS IS NEEDED: pairs of texts that meet all hypotheses of Sensors but one, and the second lamp does not say as much as the first. From the bytes of the texts to the lamp
--- behind the last event, computed as the marked examples are (promises/specs/Marked).
+-- behind the last event, computed as the marked examples are (marked/specs/Marked).
 use Prim.Native.Nat.{ℕ}
 use Prim.Native.String.{String}
 use mathlib.Core.Path.{_≡_, refl, ap, ap₂, _∙_}

@@ -24,7 +24,7 @@ refusalOf k sheet place = record { kind = k; sheet = sheet; place = place }
 abbrev pub spotIn : ℕ → Key → Lines → Spot
 spotIn n key l = spotAt n (startOf key l) (startOf key l + lengthOf key l)
 
--- both sheets are in order: the local line's value if there, otherwise the shared one's
+-- both sheets are in order: the local line's value where there is one, and else that of the shared line
 unfoldable pub chosen : Lines → Lines → Key → Asked
 chosen own common key =
     cond (eqb (lengthOf key own) 0) (cond (eqb (lengthOf key common) 0) (Refused (refusalOf NoKey 0 0)) (At (spotIn 2 key common))) (At (spotIn 1 key own))

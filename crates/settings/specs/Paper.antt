@@ -1,4 +1,4 @@
--- 01's and 02's numbers and values for each case of an answer; two answers that stand for the same on paper are equal.
+-- What an answer about sheets is on paper (02, j); two answers that stand for the same on paper are equal.
 use Prim.Native.Nat.{ℕ}
 use mathlib.Core.Path.{_≡_, ap}
 use native.Mathlib.Omega.{arith}

@@ -1,4 +1,4 @@
--- What a settings sheet is, as 02's request j says it, and where a text that is none is refused. This is to be believed; everything else is proved of it.
+-- What a settings sheet is (02, j), and where a text that is none is refused. This is to be believed; everything else is proved of it.
 use Prim.Native.Nat.{ℕ, suc, _+_, _*_, _-_, _≤_, _<_}
 use mathlib.Core.Path.{_≡_}
 use mathlib.Core.List.{List, [], _∷_, _++_}
@@ -37,7 +37,7 @@ pub record Decimal (lo hi : ℕ) (v : List ℕ) : Type 0 where
   pub least : lo ≤ numberOf v
   pub most : numberOf v ≤ hi
 
--- 1 to 512 bytes from 32 to 126
+-- the value of `rule`: some bytes, at most 512, each of which can be printed
 pub record Printable (v : List ℕ) : Type 0 where
   pub bytes : Each 32 126 v
   pub some : 0 < length v

@@ -203,7 +203,7 @@ shelf-newest st (t ∷ ts) h = by-kept (take (st .count) (st .sheets)) refl (h .
 
 -- ---- copying out
 
--- a held sheet is copied out unchanged, to the buffer's start; the buffer's other bytes stay, and one that is too short stays as it is
+-- a sheet that is held is put at the buffer's start, byte for byte; the buffer's other bytes stay, and one that is too short stays as it is
 abbrev pub copyOf : List ℕ → List ℕ → Out
 copyOf s buf = cond (ltb (length buf) (length s)) (keeps Room buf) (record { answer = Copies.Sheet (record { bytes = length s }); buffer = over s buf })
 

@@ -79,7 +79,7 @@ fn move_at(next: &[u64], states: usize, run: &[u8], stem: usize, i: usize) -> bo
     (from < states) & member(words::entry(next, from), to)
 }
 
-// There is a loop, and each state may be followed by the next.
+// There is a loop, and the table has each move of the run.
 pub fn moves(next: &[u64], states: usize, run: &[u8], stem: usize) -> bool
     ensures { λ r. ⌜ r ≡ movesOf (now (next .entry)) states (now (run .entry)) stem ⌝ }
 {

@@ -8,7 +8,7 @@ use Rattle.answers.specs.declared.Verdict.the-variants.{Inconclusive}
 use Rattle.stretches.specs.declared.Stretch.{Stretch}
 use Rattle.stretches.specs.Sheet.{decides}
 
--- an event of the list with the unseen ones put in: its number, whether it is a restart, and the verdict that the lamp then shows
+-- an event, one that was lost too: its number, whether it is a restart, and the verdict that the lamp then shows
 pub record Shown : Type 0 where
   pub number : ℕ
   pub new : Bool

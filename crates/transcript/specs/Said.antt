@@ -1,4 +1,4 @@
--- THE PROGRAM'S WHOLE OUTPUT, as a text of the three texts that it is given, in 01's order of checks. It stops at the first refusal.
+-- THE PROGRAM'S WHOLE OUTPUT, as a text of the three texts that it is given, in the order of 01, Log and program. It stops at the first refusal.
 use Prim.Native.Nat.{ℕ}
 use mathlib.Core.Bool.{Bool, true, false}
 use mathlib.Core.List.{List, [], _++_}

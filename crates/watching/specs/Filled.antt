@@ -1,4 +1,4 @@
--- THE LIST WITH THE UNSEEN ONES PUT IN (02, h): the events that the runs are judged by. What must be believed of numbers is here and in advance/specs/Numbers.
+-- ALL EVENTS, LOST ONES TOO (02, h): those that the runs are judged by. What must be believed of numbers is here and in event_numbers/specs/Numbers.
 use Prim.Native.Nat.{ℕ, zero, suc, _+_}
 use mathlib.Core.Path.{_≡_, refl, sym, ap, _∙_}
 use mathlib.Core.Bool.{Bool, true, false}

@@ -1,4 +1,4 @@
--- What the call answers and writes: 01's checks in their order, and behind them a witness.
+-- What the call answers and writes: the checks in their order (01, Refusal numbers), and behind them a witness (01, The monitor's state).
 use Prim.Native.Nat.{ℕ}
 use mathlib.Core.Path.{_≡_}
 use mathlib.Core.Bool.{Bool, not}

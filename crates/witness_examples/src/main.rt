@@ -4,7 +4,7 @@ use plant::Plant;
 use rule_text::RuleRead;
 use syntax::Rule;
 
-// Plant W of 01, whose fairness sets and moves an example may change.
+// Plant W (01, The plant table), whose fairness sets and moves an example may change.
 fn show(name: &[u8], fair: &[u64], next: &[u64], text: &[u8], events: &[u8]) {
     let plant = Plant {
         props: 2,
