@@ -165,6 +165,7 @@ impl Kind {
     }
 }
 
+// Why a call is refused, and at which byte: 0 where the reason has no place in a text.
 pub struct Refusal {
     pub kind: Kind,
     pub place: usize,

@@ -42,7 +42,8 @@ pub enum LogAnswer {
 // The rule's text is taken as it stands: no LF is dropped. No text has a greatest length but the rule.
 pub fn watch_log(table: &[u8], rule: &[u8], log: &[u8], verdicts: &mut [u8]) -> LogAnswer
     ensures answer { λ r. ⌜ r ≡ heardOf (now (table .entry)) (now (rule .entry)) (now (log .entry)) (length (now (verdicts .entry))) .answer ⌝ }
-    ensures verdicts { λ _. ⌜ now (verdicts .exit) ≡ over (heardOf (now (table .entry)) (now (rule .entry)) (now (log .entry)) (length (now (verdicts .entry))) .bytes) (now (verdicts .entry)) ⌝ }
+    ensures verdicts { λ _. ⌜ now (verdicts .exit) ≡ over
+        (heardOf (now (table .entry)) (now (rule .entry)) (now (log .entry)) (length (now (verdicts .entry))) .bytes) (now (verdicts .entry)) ⌝ }
 {
     let opened = open_texts(table, rule);
     let outcome = opened.outcome;

@@ -18,6 +18,7 @@ pub struct DayWent {
     pub sheet: DaySheet,
 }
 
+// The form of the text is not checked here, and the place of a refusal is 0: who knows of files puts the line's offset there (minutes).
 pub fn note_log(
     plant: Plant,
     fair: &[u64],

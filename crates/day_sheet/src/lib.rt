@@ -57,7 +57,8 @@ fn after_step(
     stepped: Watched,
 ) -> Noted
     requires { ⌜ (Shows (stepped .answer) → Ready (now label) rule) ⌝ }
-    ensures { λ r. ⌜ r ≡ noteBy stepped (stepped .answer) (isFull sheet (monitor .seen) (event .new)) monitor sheet (sheetIn (now (label .entry)) (now (next .entry)) (waysOf (now (label .entry)) rule) live monitor sheet event) ⌝ }
+    ensures { λ r. ⌜ r ≡ noteBy stepped (stepped .answer) (isFull sheet (monitor .seen) (event .new)) monitor sheet
+        (sheetIn (now (label .entry)) (now (next .entry)) (waysOf (now (label .entry)) rule) live monitor sheet event) ⌝ }
 {
     let answer = stepped.answer;
     let after = stepped.monitor;

@@ -27,6 +27,7 @@ impl File {
 
     pub const LOG: usize = 65520;
 
+    // The constants, pinned by a contract.
     pub fn most() -> Sizes
         ensures { λ r. ⌜ (r .plant ≡ 2477) × (r .rule ≡ 513) × (r .log ≡ 65520) ⌝ }
     {

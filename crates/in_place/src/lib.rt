@@ -19,7 +19,8 @@ pub fn step_in_place(
     monitor: &mut Monitor,
     event: Event,
 ) -> Answer
-    ensures { λ r. ⌜ (r ≡ stepCall plant (now (fair .entry)) (now (label .entry)) (now (next .entry)) rule live (now (monitor .entry)) event .answer) × (now (monitor .exit) ≡ stepCall plant (now (fair .entry)) (now (label .entry)) (now (next .entry)) rule live (now (monitor .entry)) event .monitor) ⌝ }
+    ensures { λ r. ⌜ (r ≡ stepCall plant (now (fair .entry)) (now (label .entry)) (now (next .entry)) rule live (now (monitor .entry)) event .answer)
+        × (now (monitor .exit) ≡ stepCall plant (now (fair .entry)) (now (label .entry)) (now (next .entry)) rule live (now (monitor .entry)) event .monitor) ⌝ }
 {
     let watched = monitor::step(plant, fair, label, next, rule, live, *monitor, event);
     *monitor = watched.monitor;

@@ -32,7 +32,8 @@ pub extern "C" fn jug_watch_log(
     verdicts: &mut [u8],
 ) -> Answer
     ensures answer { λ r. ⌜ r ≡ heardAs (heardOf (now (table .entry)) (now (rule .entry)) (now (log .entry)) (length (now (verdicts .entry))) .answer) ⌝ }
-    ensures verdicts { λ _. ⌜ now (verdicts .exit) ≡ over (heardOf (now (table .entry)) (now (rule .entry)) (now (log .entry)) (length (now (verdicts .entry))) .bytes) (now (verdicts .entry)) ⌝ }
+    ensures verdicts { λ _. ⌜ now (verdicts .exit) ≡ over
+        (heardOf (now (table .entry)) (now (rule .entry)) (now (log .entry)) (length (now (verdicts .entry))) .bytes) (now (verdicts .entry)) ⌝ }
 {
     told::heard(controller::watch_log(table, rule, log, verdicts))
 }

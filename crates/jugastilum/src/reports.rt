@@ -18,7 +18,8 @@ pub extern "C" fn jug_judge(
     break_stem: &[u8],
     break_loop: &[u8],
 ) -> Answer
-    ensures { λ r. ⌜ r ≡ judgedAs (judgedOf (now (table .entry)) (now (rule .entry)) (now (log .entry)) (reportOf claim (now («keep_stem» .entry)) (now («keep_loop» .entry)) (now («break_stem» .entry)) (now («break_loop» .entry)))) ⌝ }
+    ensures { λ r. ⌜ r ≡ judgedAs (judgedOf (now (table .entry)) (now (rule .entry)) (now (log .entry))
+        (reportOf claim (now («keep_stem» .entry)) (now («keep_loop» .entry)) (now («break_stem» .entry)) (now («break_loop» .entry)))) ⌝ }
 {
     told::judged(judge_report(
         table,

@@ -21,6 +21,7 @@ fn put_line(out: &mut [u8], at: usize, line: Line) -> usize
     writing::put_text(out, at, &bytes[..len])
 }
 
+// The line of a refusal.
 pub fn put_refused(out: &mut [u8], at: usize, refusal: Refusal) -> usize
     requires { ⌜ at + 70 ≤ length (now out) ⌝ }
     ensures { λ r. ⌜ Put (now (out .entry)) at (refusedText refusal) (now (out .exit)) r ⌝ }
@@ -29,6 +30,7 @@ pub fn put_refused(out: &mut [u8], at: usize, refusal: Refusal) -> usize
     put_line(out, at, line)
 }
 
+// The line of the start, at the buffer's beginning.
 pub fn put_start(out: &mut [u8], lamp: Lamp) -> usize
     requires { ⌜ 70 ≤ length (now out) ⌝ }
     ensures text { λ r. ⌜ Put (now (out .entry)) 0 (startText lamp) (now (out .exit)) r ⌝ }

@@ -86,6 +86,7 @@ fn further(rule: Rule, props: u64, back: Back, event: Event) -> Back
     }
 }
 
+// From the last line back to the restart, or to the first line: so no line is looked at that does not count.
 pub fn look_back(rule: Rule, log: &[u8], props: usize) -> Found
     requires { ⌜ rule .len ≤ 32 ⌝ }
     ensures { λ r. ⌜ r ≡ foundOf rule (eventAt (widthOf props) (now (log .entry))) (wholeLines (widthOf props) (now (log .entry))) ⌝ }

@@ -34,6 +34,7 @@ fn live_pairs(states: usize, fair: &[u64], label: &[u16], next: &[u64], rule: Ru
     )
 }
 
+// Checks 1, 2 and 9, and behind them the live pairs: worked out once, and handed to every step.
 pub fn prepare(plant: Plant, fair: &[u64], label: &[u16], next: &[u64], rule: Rule) -> Prepared
     ensures { λ r. ⌜ r ≡ preparedOf plant (now (fair .entry)) (now (label .entry)) (now (next .entry)) rule ⌝ }
 {

@@ -59,7 +59,8 @@ pub fn judge_report(
     break_stem: &[u8],
     break_loop: &[u8],
 ) -> Judged
-    ensures { λ r. ⌜ r ≡ judgedOf (now (table .entry)) (now (rule .entry)) (now (log .entry)) (reportOf claim (now («keep_stem» .entry)) (now («keep_loop» .entry)) (now («break_stem» .entry)) (now («break_loop» .entry))) ⌝ }
+    ensures { λ r. ⌜ r ≡ judgedOf (now (table .entry)) (now (rule .entry)) (now (log .entry))
+        (reportOf claim (now («keep_stem» .entry)) (now («keep_loop» .entry)) (now («break_stem» .entry)) (now («break_loop» .entry))) ⌝ }
 {
     let keeping = ShownRun::of(keep_stem, keep_loop);
     let breaking = ShownRun::of(break_stem, break_loop);
@@ -209,7 +210,8 @@ fn judge_both(
     report: Report,
 ) -> Judged
     requires { ⌜ (rule .len ≤ 32) × Sized report ⌝ }
-    ensures { λ r. ⌜ r ≡ reportJudged plant (now (fair .entry)) (now (label .entry)) (now (next .entry)) rule (eventAt (widthOf (plant .props)) (now (log .entry))) (wholeLines (widthOf (plant .props)) (now (log .entry))) verdict report ⌝ }
+    ensures { λ r. ⌜ r ≡ reportJudged plant (now (fair .entry)) (now (label .entry)) (now (next .entry)) rule
+        (eventAt (widthOf (plant .props)) (now (log .entry))) (wholeLines (widthOf (plant .props)) (now (log .entry))) verdict report ⌝ }
 {
     let claim = report.claim;
     let keeping: ShownRun = report.keeping;
@@ -256,7 +258,8 @@ fn look_at(
     run: ShownRun,
 ) -> Found
     requires { ⌜ (rule .len ≤ 32) × RunSized run ⌝ }
-    ensures { λ r. ⌜ r ≡ lookedAt plant (now (fair .entry)) (now (label .entry)) (now (next .entry)) rule (eventAt (widthOf (plant .props)) (now (log .entry))) (wholeLines (widthOf (plant .props)) (now (log .entry))) mark claim keeps run ⌝ }
+    ensures { λ r. ⌜ r ≡ lookedAt plant (now (fair .entry)) (now (label .entry)) (now (next .entry)) rule
+        (eventAt (widthOf (plant .props)) (now (log .entry))) (wholeLines (widthOf (plant .props)) (now (log .entry))) mark claim keeps run ⌝ }
 {
     if !needs(claim, keeps) {
         return Found::Correct;

@@ -29,6 +29,7 @@ impl ShownRun {
         len: 0,
     };
 
+    // The two parts one behind the other, where they are not too long.
     pub fn of(stem: &[u8], turn: &[u8]) -> Self
         ensures { λ r. ⌜ r ≡ shownOf (now (stem .entry)) (now (turn .entry)) ⌝ }
     {

@@ -14,6 +14,7 @@ pub struct End {
     pub monitor: Monitor,
 }
 
+// Prepares, opens and walks through the whole log; of a log that is refused there is no monitor to go on from.
 pub fn play(
     plant: Plant,
     fair: &[u64],

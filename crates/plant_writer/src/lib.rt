@@ -17,6 +17,7 @@ impl Length {
     // The most bytes of a table's text: a buffer of so many has room for any.
     pub const MOST: usize = 2477;
 
+    // The constant, pinned by a contract.
     pub fn most() -> Self
         ensures { λ r. ⌜ r .bytes ≡ 2477 ⌝ }
     {

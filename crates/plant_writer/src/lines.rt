@@ -105,7 +105,8 @@ fn put_row(buffer: &mut [u8], at: usize, width: usize, k: usize, label: u16, nex
 
 // The lines of each state, labels of so many digits.
 fn put_rows(buffer: &mut [u8], at: usize, width: usize, label: &[u16], next: &[u64]) -> usize
-    requires { ⌜ (length (now label) < 100) × (length (now next) ≡ length (now label)) × (at + length (linesBelow (length (now label)) (rowLines width (now label) (now next))) ≤ length (now buffer)) ⌝ }
+    requires { ⌜ (length (now label) < 100) × (length (now next) ≡ length (now label))
+        × (at + length (linesBelow (length (now label)) (rowLines width (now label) (now next))) ≤ length (now buffer)) ⌝ }
     ensures { λ r. ⌜ Put (now (buffer .entry)) at (textOf (linesBelow (length (now (label .entry))) (rowLines width (now (label .entry)) (now (next .entry))))) (now (buffer .exit)) r ⌝ }
 {
     let mut end = at;

@@ -10,6 +10,7 @@ pub fn run() {
     run_in(&folder[..len]);
 }
 
+// All three files are read first. In which order they are judged, and what is written, is `write_output`'s alone.
 pub fn run_in(folder: &[u8]) {
     let mut plant = [0u8; File::PLANT];
     let mut rule = [0u8; File::RULE];

@@ -89,6 +89,7 @@ fn put_refusal(line: Line, refusal: Refusal) -> Line
     put(d, b"\n")
 }
 
+// `refused=N place=P` and LF.
 pub fn refused_line(refusal: Refusal) -> Line
     ensures text { λ r. ⌜ r ≡ lineOf (refusedText refusal) ⌝ }
     ensures room { λ r. ⌜ Counts (r .len) (r .bytes) ⌝ }

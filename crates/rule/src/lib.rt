@@ -19,6 +19,7 @@ impl Length {
     // The most bytes of a printed rule: a buffer of so many has room for any.
     pub const MOST: usize = 109;
 
+    // The constant, pinned by a contract.
     pub fn most() -> Self
         ensures { λ r. ⌜ r .bytes ≡ 109 ⌝ }
     {

@@ -16,6 +16,7 @@ pub struct RuleRead {
 }
 
 impl RuleRead {
+    // With a refusal there is no rule, and no choice which.
     pub fn refused(kind: Kind, place: usize) -> Self
         ensures { λ r. ⌜ r ≡ noRule kind place ⌝ }
     {

@@ -171,7 +171,9 @@ pub fn take(
     verdicts: &mut [u8],
 ) -> Taken
     ensures taken { λ r. ⌜ r ≡ takeCall plant (now (fair .entry)) (now (label .entry)) (now (next .entry)) rule live radio (now (scrap .entry)) (length (now (verdicts .entry))) .taken ⌝ }
-    ensures verdicts { λ _. ⌜ now (verdicts .exit) ≡ laid (takeCall plant (now (fair .entry)) (now (label .entry)) (now (next .entry)) rule live radio (now (scrap .entry)) (length (now (verdicts .entry))) .verdicts) (now (verdicts .entry)) ⌝ }
+    ensures verdicts { λ _. ⌜ now (verdicts .exit) ≡ laid
+        (takeCall plant (now (fair .entry)) (now (label .entry)) (now (next .entry)) rule live radio (now (scrap .entry)) (length (now (verdicts .entry))) .verdicts)
+        (now (verdicts .entry)) ⌝ }
 {
     let outcome = check_take(
         plant,

@@ -149,8 +149,10 @@ pub fn check_run(
     stem: usize,
 ) -> Found
     requires { ⌜ (rule .len ≤ 32) × (length (now run) ≤ 4096) ⌝ }
-    ensures is { λ r. ⌜ r ≡ checkedOf plant (now (fair .entry)) (now (label .entry)) (now (next .entry)) rule (eventAt (widthOf (plant .props)) (now (log .entry))) (wholeLines (widthOf (plant .props)) (now (log .entry))) mark keeps (now (run .entry)) stem ⌝ }
-    ensures means { λ r. ⌜ Means plant (now (fair .entry)) (now (label .entry)) (now (next .entry)) rule (eventAt (widthOf (plant .props)) (now (log .entry))) (wholeLines (widthOf (plant .props)) (now (log .entry))) mark keeps (now (run .entry)) stem r ⌝ }
+    ensures is { λ r. ⌜ r ≡ checkedOf plant (now (fair .entry)) (now (label .entry)) (now (next .entry)) rule
+        (eventAt (widthOf (plant .props)) (now (log .entry))) (wholeLines (widthOf (plant .props)) (now (log .entry))) mark keeps (now (run .entry)) stem ⌝ }
+    ensures means { λ r. ⌜ Means plant (now (fair .entry)) (now (label .entry)) (now (next .entry)) rule
+        (eventAt (widthOf (plant .props)) (now (log .entry))) (wholeLines (widthOf (plant .props)) (now (log .entry))) mark keeps (now (run .entry)) stem r ⌝ }
 {
     if !starts(plant.start, plant.states, run) {
         return Found::Fails(Failing::Start);

@@ -15,6 +15,7 @@ ghost use Prim.Native.Nat.{_<_, _^_};
 ghost use Rattle.event_numbers.specs.Numbers.{numberOf};
 ghost use Rattle.sides.specs.Sides.{openedBy, movedIn, restartedIn, caughtUpIn, cameIn, takenIn};
 
+// The opening has no use for moves, so only where the rule holds is worked out for it.
 pub fn opened(start: u64, label: &[u16], rule: Rule, live: Pairs) -> Monitor
     requires { ⌜ Ready (now label) rule ⌝ }
     ensures { λ r. ⌜ r ≡ openedBy start (waysOf (now (label .entry)) rule .holds) (live .words) ⌝ }
@@ -34,7 +35,8 @@ fn moved(
     agree: u64,
 ) -> Monitor
     requires { ⌜ Ready (now label) rule ⌝ }
-    ensures { λ r. ⌜ r ≡ movedIn (now (next .entry)) (waysOf (now (label .entry)) rule) (live .words) (caughtUpIn (now (label .entry)) (now (next .entry)) (waysOf (now (label .entry)) rule) (live .words) monitor gap) agree ⌝ }
+    ensures { λ r. ⌜ r ≡ movedIn (now (next .entry)) (waysOf (now (label .entry)) rule) (live .words)
+        (caughtUpIn (now (label .entry)) (now (next .entry)) (waysOf (now (label .entry)) rule) (live .words) monitor gap) agree ⌝ }
 {
     let ways = ways::move_ways_of(label, rule);
     let now = catch_up(
@@ -69,7 +71,8 @@ fn restarted(
     agree: u64,
 ) -> Monitor
     requires { ⌜ Ready (now label) rule ⌝ }
-    ensures { λ r. ⌜ r ≡ restartedIn (now (next .entry)) (waysOf (now (label .entry)) rule) (live .words) (caughtUpIn (now (label .entry)) (now (next .entry)) (waysOf (now (label .entry)) rule) (live .words) monitor gap) agree ⌝ }
+    ensures { λ r. ⌜ r ≡ restartedIn (now (next .entry)) (waysOf (now (label .entry)) rule) (live .words)
+        (caughtUpIn (now (label .entry)) (now (next .entry)) (waysOf (now (label .entry)) rule) (live .words) monitor gap) agree ⌝ }
 {
     let ways = ways::restart_ways_of(label, rule);
     let now = catch_up(

@@ -39,6 +39,7 @@ fn wide(number: u8) -> u64
     number as u64
 }
 
+// Its number and its place; the other two numbers are 0.
 pub fn refused(refusal: Refusal) -> Answer
     ensures { λ r. ⌜ r ≡ refusedBy refusal ⌝ }
 {

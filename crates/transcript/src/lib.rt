@@ -18,6 +18,7 @@ ghost use Rattle.transcript.specs.Said.{fileOf, logText, ruleText, table
 // The bytes of the longest output: a line of at most 70 for the start, for each of 3,276 events, and for a refusal.
 pub const ROOM: usize = 229460;
 
+// The texts in their turn; the first refusal is the last line. Answers how many bytes of the buffer are the output.
 pub fn write_output(
     planted: bool,
     plant: &[u8],
@@ -82,7 +83,8 @@ fn with_parts(
     out: &mut [u8],
 ) -> usize
     requires { ⌜ (length (now log) ≤ 65520) × (229460 ≤ length (now out)) ⌝ }
-    ensures { λ r. ⌜ Put (now (out .entry)) 0 (ruleText plant (now (fair .entry)) (now (label .entry)) (now (next .entry)) (fileOf ruled (now (text .entry))) (fileOf logged (now (log .entry)))) (now (out .exit)) r ⌝ }
+    ensures { λ r. ⌜ Put (now (out .entry)) 0 (ruleText plant (now (fair .entry)) (now (label .entry)) (now (next .entry))
+        (fileOf ruled (now (text .entry))) (fileOf logged (now (log .entry)))) (now (out .exit)) r ⌝ }
 {
     let read = texts::read_rule(plant, fair, label, next, ruled, text);
     let outcome = read.outcome;

@@ -26,6 +26,7 @@ ghost use Rattle.transcript.specs.Place.{placedAt, atLine};
 ghost use Rattle.lamp_lines.specs.Lines.{byteLines};
 ghost use Rattle.transcript.specs.Said.{stopText, behindText, openedText, playedText};
 
+// The lines of a log of the form, behind a table and a rule that were accepted.
 pub fn play(
     plant: Plant,
     fair: &[u64],
@@ -58,9 +59,12 @@ fn from_start(
     log: &[u8],
     out: &mut [u8],
 ) -> usize
-    requires { ⌜ (preparedOf plant (now fair) (now label) (now next) rule .outcome ≡ Accepted) × (live ≡ preparedOf plant (now fair) (now label) (now next) rule .live) × (length (now log) ≤ 65520) × (229460 ≤ length (now out)) ⌝ }
-    ensures { λ r. ⌜ Put (now (out .entry)) 0 (openedText (bytesIn (widthOf (plant .props)) (now (log .entry))) (openCall plant (now (fair .entry)) (now (label .entry)) (now (next .entry)) rule live .answer)
-        (courseOf plant (now (fair .entry)) (now (label .entry)) (now (next .entry)) rule live (openCall plant (now (fair .entry)) (now (label .entry)) (now (next .entry)) rule live .monitor) (now (log .entry)))) (now (out .exit)) r ⌝ }
+    requires { ⌜ (preparedOf plant (now fair) (now label) (now next) rule .outcome ≡ Accepted)
+        × (live ≡ preparedOf plant (now fair) (now label) (now next) rule .live) × (length (now log) ≤ 65520) × (229460 ≤ length (now out)) ⌝ }
+    ensures { λ r. ⌜ Put (now (out .entry)) 0 (openedText (bytesIn (widthOf (plant .props)) (now (log .entry)))
+        (openCall plant (now (fair .entry)) (now (label .entry)) (now (next .entry)) rule live .answer)
+        (courseOf plant (now (fair .entry)) (now (label .entry)) (now (next .entry)) rule live
+        (openCall plant (now (fair .entry)) (now (label .entry)) (now (next .entry)) rule live .monitor) (now (log .entry)))) (now (out .exit)) r ⌝ }
 {
     let opened = monitor::open(plant, fair, label, next, rule, live);
     let answer = opened.answer;
@@ -88,7 +92,8 @@ fn behind_start(
     out: &mut [u8],
 ) -> usize
     requires { ⌜ Fitting plant (now fair) (now label) (now next) rule live monitor × (at ≤ 70) × (length (now log) ≤ 65520) × (229460 ≤ length (now out)) ⌝ }
-    ensures { λ r. ⌜ Put (now (out .entry)) at (behindText (bytesIn (widthOf (plant .props)) (now (log .entry))) (courseOf plant (now (fair .entry)) (now (label .entry)) (now (next .entry)) rule live monitor (now (log .entry)))) (now (out .exit)) r ⌝ }
+    ensures { λ r. ⌜ Put (now (out .entry)) at (behindText (bytesIn (widthOf (plant .props)) (now (log .entry)))
+        (courseOf plant (now (fair .entry)) (now (label .entry)) (now (next .entry)) rule live monitor (now (log .entry)))) (now (out .exit)) r ⌝ }
 {
     let mut verdicts = [0u8; 3276];
     let mut lefts = [0u8; 3276];

@@ -12,6 +12,7 @@ ghost use Rattle.transcript.specs.End.{endOf};
 ghost use Rattle.opened.specs.Lent.{Lent};
 ghost use Rattle.transcript.specs.Said.{fileOf, plantRead, ruleGiven, logOutcome};
 
+// A text that is not there is 14, here and below.
 pub fn read_plant(ok: bool, text: &[u8]) -> TableRead
     ensures { λ r. ⌜ r ≡ plantRead (fileOf ok (now (text .entry))) ⌝ }
     ensures parts { λ r. ⌜ Lent (r .table) ⌝ }
@@ -40,6 +41,7 @@ fn without_end(text: &[u8]) -> usize
     len
 }
 
+// The one final LF that rule.txt may have is no byte of the rule.
 pub fn read_rule(
     plant: Plant,
     fair: &[u64],
@@ -57,6 +59,7 @@ pub fn read_rule(
     RuleRead::refused(Kind::File, 0)
 }
 
+// The form alone: events are judged one by one, behind the lamps before them.
 pub fn check_log(ok: bool, text: &[u8], props: usize) -> Outcome
     ensures { λ r. ⌜ r ≡ logOutcome props (fileOf ok (now (text .entry))) ⌝ }
 {

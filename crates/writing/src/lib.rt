@@ -4,6 +4,7 @@ ghost use Prim.Native.Nat.{_+_, _≤_, _<_};
 ghost use lib.ListN.{length};
 ghost use Rattle.writing.specs.Put.{Put};
 
+// A whole text.
 pub fn put_text(buffer: &mut [u8], at: usize, text: &[u8]) -> usize
     requires { ⌜ at + length (now text) ≤ length (now buffer) ⌝ }
     ensures { λ r. ⌜ Put (now (buffer .entry)) at (now (text .entry)) (now (buffer .exit)) r ⌝ }
@@ -13,6 +14,7 @@ pub fn put_text(buffer: &mut [u8], at: usize, text: &[u8]) -> usize
     at + text.len()
 }
 
+// One byte.
 pub fn put_byte(buffer: &mut [u8], at: usize, b: u8) -> usize
     requires { ⌜ at < length (now buffer) ⌝ }
     ensures { λ r. ⌜ Put (now (buffer .entry)) at (b ∷ []) (now (buffer .exit)) r ⌝ }
