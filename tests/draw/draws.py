@@ -12,6 +12,7 @@ HOME = os.path.dirname(os.path.dirname(os.path.dirname(os.path.abspath(__file__)
 sys.path.insert(0, os.path.join(HOME, 'tests', 'plant'))
 
 import pictured
+from started import Tool
 
 from desk import program, texts
 
@@ -20,6 +21,9 @@ EMPTY = {'meta', 'br', 'link', 'img', 'input', 'hr'}
 
 def fail(words):
     sys.exit('draw: %s' % words)
+
+
+asked = Tool('draw', fail).asked
 
 
 class Balanced(html.parser.HTMLParser):
@@ -39,19 +43,6 @@ class Balanced(html.parser.HTMLParser):
     def handle_endtag(self, tag):
         if not self.open or self.open.pop() != tag:
             self.wrong.append(tag)
-
-
-def run(*given):
-    done = subprocess.run([sys.executable, '-B', os.path.join(HOME, 'tools', 'draw'), *given], stdout=subprocess.PIPE, stderr=subprocess.STDOUT, text=True, check=False)
-    if 'Traceback' in done.stdout:
-        fail('a traceback for %s:\n%s' % (' '.join(given), done.stdout))
-    return done.returncode, done.stdout
-
-
-def asked(status, phrase, *given):
-    found = run(*given)
-    if found[0] != status or phrase not in found[1]:
-        fail('status %d and not %d, or no word of "%s", for %s:\n%s' % (found[0], status, phrase, ' '.join(given), found[1]))
 
 
 def drawn(folder, room, lamps, status=0):

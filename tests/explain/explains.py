@@ -10,6 +10,7 @@ HOME = os.path.dirname(os.path.dirname(os.path.dirname(os.path.abspath(__file__)
 sys.path.insert(0, os.path.join(HOME, 'tests', 'plant'))
 
 import thrown
+from started import Tool
 
 from desk import doctor, graph, program, refusals, rules, texts, why, words
 from desk.trouble import Bad
@@ -115,27 +116,15 @@ def fail(said):
     sys.exit('explain: %s' % said)
 
 
+asked = Tool('explain', fail).asked
+
+
 def put(folder, files):
     os.makedirs(folder, exist_ok=True)
     for name, text in files.items():
         if text is not None:
             with open(os.path.join(folder, name), 'wb') as file:
                 file.write(text.encode('latin-1'))
-
-
-def run(*given):
-    done = subprocess.run([sys.executable, '-B', os.path.join(HOME, 'tools', 'explain'), *given], stdout=subprocess.PIPE, stderr=subprocess.STDOUT, text=True, check=False)
-    if 'Traceback' in done.stdout:
-        fail('a traceback for %s:\n%s' % (' '.join(given), done.stdout))
-    return done.returncode, done.stdout
-
-
-def asked(status, phrases, *given):
-    found, said = run(*given)
-    for phrase in phrases:
-        if found != status or phrase not in said:
-            fail('status %d and not %d, or no word of "%s", for %s:\n%s' % (found, status, phrase, ' '.join(given), said))
-    return said
 
 
 # ---- refusals ----

@@ -1,10 +1,10 @@
 """See tests/plant/run."""
 import os
-import subprocess
 import sys
 import tempfile
 
 import thrown
+from started import Tool
 from thrown import HOME
 
 from desk import program, rules, texts, words
@@ -88,6 +88,9 @@ def fail(words_):
     sys.exit('plant: %s' % words_)
 
 
+asked = Tool('plant', fail).asked
+
+
 def refused(reading, text, where, phrase):
     """A text that must be refused there, by these words."""
     try:
@@ -161,19 +164,6 @@ def try_damage(seed):
             except Bad as bad:
                 if not 0 <= bad.place <= len(text) or not told('words.txt', text, bad):
                     fail('refused at %d, which the text does not have:\n%s' % (bad.place, text))
-
-
-def run(*given):
-    done = subprocess.run([sys.executable, '-B', os.path.join(HOME, 'tools', 'plant'), *given], stdout=subprocess.PIPE, stderr=subprocess.STDOUT, text=True, check=False)
-    if 'Traceback' in done.stdout:
-        fail('a traceback for %s:\n%s' % (' '.join(given), done.stdout))
-    return done.returncode, done.stdout
-
-
-def asked(status, phrase, *given):
-    found = run(*given)
-    if found[0] != status or phrase not in found[1]:
-        fail('status %d and not %d, or no word of "%s", for %s:\n%s' % (found[0], status, phrase, ' '.join(given), found[1]))
 
 
 def write(folder, name, data):

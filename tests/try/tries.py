@@ -6,14 +6,14 @@ import os
 import random
 import re
 import shutil
-import subprocess
 import sys
 import tempfile
 
 HOME = os.path.dirname(os.path.dirname(os.path.dirname(os.path.abspath(__file__))))
-sys.path.insert(0, os.path.join(HOME, 'tools'))
+sys.path[:0] = [os.path.join(HOME, 'tools'), os.path.join(HOME, 'tests', 'plant')]
 
 from desk import machine, program, texts
+from started import Tool
 
 PLANTS = {'turbine': 'examples/turbine', 'door': 'tests/try/plants/door', 'three': 'tests/try/plants/three'}
 MOST = 3276             # lines of a log for `watch`
@@ -22,6 +22,9 @@ ENDS = 12               # logs of a plant that end at a cell from which no way g
 
 def fail(words):
     sys.exit('try: %s' % words)
+
+
+asked = Tool('try', fail).asked
 
 
 def folder_of(name):
@@ -33,20 +36,6 @@ def recorded(name):
 
 
 # ---- the tool ----
-
-def run(*given):
-    words = [sys.executable, '-B', os.path.join(HOME, 'tools', 'try'), *given]
-    done = subprocess.run(words, stdout=subprocess.PIPE, stderr=subprocess.STDOUT, text=True, check=False)
-    if 'Traceback' in done.stdout:
-        fail('a traceback for %s:\n%s' % (' '.join(given), done.stdout))
-    return done.returncode, done.stdout
-
-
-def asked(status, phrase, *given):
-    found = run(*given)
-    if found[0] != status or phrase not in found[1]:
-        fail('status %d and not %d, or no word of "%s", for %s:\n%s' % (found[0], status, phrase, ' '.join(given), found[1]))
-
 
 def page_of(folder, room, source=None):
     """The page of a folder, by the program where there is no source."""

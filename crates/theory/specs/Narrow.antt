@@ -37,7 +37,7 @@ verdict-narrows {a} {b} {a'} {b'} h k = record {
     pick true v p q = inl p
     pick false v p q = inr q
 
--- the second event sees all that the first sees, with the same values
+-- the second event sees no less than the first, and nothing otherwise
 abbrev pub Finer : Seen → Seen → Type 0
 Finer e e' = (p : ℕ) → So (bit (e .see) p) → So (bit (e' .see) p) × (bit (e .val) p ≡ bit (e' .val) p)
 
