@@ -6,6 +6,7 @@ A row of docs/PROMISES.md whose last cell names files, as `plant/specs/Promises;
 A row of its table of the paper's sentences (what the paper says, definition, theorem, edits): in the second and the third cell each part up to a `;` has its
 names and then the files, and each name is defined in one of these. Each edit of the fourth, as `crate/edit`, is there, and where none is named stands why.
 The edits of any other table whose last heading says so are there too.
+A name `Type::NAME` or `crate::name` on any page but the landings, which tell of former times, is one of the sources.
 """
 import glob
 import os
@@ -13,6 +14,7 @@ import re
 import sys
 
 PAGES = ['README.md', 'CONTRIBUTING.md', 'tests/README.md'] + sorted(glob.glob('docs/*.md'))
+KIT = ['io', 'libc', 'os']
 SENTENCES = ['what the paper says', 'definition', 'theorem on the calls', 'edits']
 
 
@@ -118,6 +120,19 @@ def sentence(page, cells):
         yield '%s: no edit, and no ground: %s' % (page, cells[0])
 
 
+def qualified(page):
+    """What is wrong with names as `Rule::MAX` and `log::read_log`. Those of the kit's own libraries are not looked for."""
+    for owner, name in re.findall(r'`(\w+)::(\w+)', read(page)):
+        if owner[0].isupper():
+            sources = [s for s in SOURCES.values() if re.search(r'(?m)^impl(?:<[^>]*>)? %s\b|\benum %s\b' % (owner, owner), s)]
+            found = any(re.search(r'\b(?:const|fn) %s\b|(?m:^    %s\b)' % (name, name), s) for s in sources)
+        else:
+            sources = [s for path, s in SOURCES.items() if path.startswith('crates/%s/' % owner)]
+            found = owner in KIT or any(re.search(r'\b(?:const|fn) %s\b' % name, s) for s in sources)
+        if not found:
+            yield '%s: there is no %s::%s' % (page, owner, name)
+
+
 def rows(page):
     for head, _, *body in tables(page):
         for cells in body:
@@ -129,9 +144,11 @@ def rows(page):
                 yield from stand(page, cells[-2], places(cells[-1]))
 
 
+SOURCES = {path: read(path) for path in glob.glob('crates/*/src/*.rt')}
 if not any(table[0] == SENTENCES for table in tables('docs/PROMISES.md')):
     sys.exit('pages: docs/PROMISES.md has no table of sentences')
 wrong = [w for page in PAGES if os.path.exists(page) for w in links(page)] + list(rows('docs/PROMISES.md'))
+wrong += [w for page in PAGES if os.path.exists(page) and page != 'docs/LANDINGS.md' for w in qualified(page)]
 if wrong:
     sys.exit('\n'.join(['pages: what the pages name is not in the tree'] + wrong))
 print('pages: every link leads somewhere, every name stands where it is said to, and every edit is there')
