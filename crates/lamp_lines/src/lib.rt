@@ -1,4 +1,4 @@
-// Lines put into a lent buffer, one behind the other. Each answer is where the text ends.
+// The program's lines, of lamps and of a refusal, put into a lent buffer one behind the other. Each answer is where the text ends.
 use answers::Lamp;
 use answers::Refusal;
 use answers::Verdict;
