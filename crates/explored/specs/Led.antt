@@ -14,7 +14,7 @@ use Rattle.sides.specs.Sides.{advancedBy, advancedIn}
 use Rattle.narrowed.specs.Narrowed.{narrowedIn, narrowed-is, advanced-whole}
 use Rattle.columns.specs.Columns.{eventAt}
 use Rattle.explored.specs.Blocks.{blockAt}
-use Rattle.explored.specs.States.{blockOf, monitorFrom, monitorIn, stepOf, Found, block-back}
+use Rattle.explored.specs.States.{blockOf, monitorFrom, monitorIn, blockAfter, Found, block-back}
 
 -- where the first column of a place's row has its cell
 abbrev pub firstCell : ℕ → ℕ → ℕ
@@ -37,8 +37,8 @@ module _ (place c : ℕ) (some : 1 ≤ c) where
   same-row = rw rows-before (mul-add-div-right {m = c} some (place / c) 0 ∙ rw (div-eq-of-lt {n = 0} {m = c} some) (add-zero (place / c)))
 
 -- a state that an event led to is read back from its words
-step-back : (label next : List ℕ) (w : Ways) (live block : List ℕ) (k : ℕ) → monitorIn (stepOf label next w live block k) ≡ advancedIn label next w live (monitorIn block) (eventAt k)
-unfolding stepOf monitorFrom
+step-back : (label next : List ℕ) (w : Ways) (live block : List ℕ) (k : ℕ) → monitorIn (blockAfter label next w live block k) ≡ advancedIn label next w live (monitorIn block) (eventAt k)
+unfolding blockAfter monitorFrom
 step-back label next w live block k =
     let ((keeps, breaks), expected) = advanced-whole label next (w .leave) (w .enter) (w .holds) (w .count) live (monitorIn block) (eventAt k) in
     block-back (advancedIn label next w live (monitorIn block) (eventAt k)) expected keeps breaks
@@ -58,9 +58,9 @@ module _ {label next : List ℕ} {w : Ways} {live opening : List ℕ} {c : ℕ} 
       earlier : 0 < places % c → places - places % c < places
       earlier later = omega (arith, mod-le places c)
 
-      back : 0 < places % c → monitorIn (stepOf label next w live (blockAt 130 room ((places - places % c) / c)) ((places - places % c) % c)) ≡ advancedBy label next (w .leave) (w .enter) (w .holds) (w .count) live (monitorIn (blockAt 130 room (places / c))) (eventAt 0)
+      back : 0 < places % c → monitorIn (blockAfter label next w live (blockAt 130 room ((places - places % c) / c)) ((places - places % c) % c)) ≡ advancedBy label next (w .leave) (w .enter) (w .holds) (w .count) live (monitorIn (blockAt 130 room (places / c))) (eventAt 0)
       back later =
-          ap₂ (λ (r k : ℕ). monitorIn (stepOf label next w live (blockAt 130 room r) k)) (same-row places c some) (first-column places c some)
+          ap₂ (λ (r k : ℕ). monitorIn (blockAfter label next w live (blockAt 130 room r) k)) (same-row places c some) (first-column places c some)
           ∙ step-back label next w live (blockAt 130 room (places / c)) 0
 
 -- ---- for code

@@ -56,8 +56,8 @@ monitorIn block = monitorFrom block 0
 -- ---- what steps
 
 -- the state after the event of column k
-unfoldable pub stepOf : List ℕ → List ℕ → Ways → List ℕ → List ℕ → ℕ → List ℕ
-stepOf label next w live block k = blockOf (advancedIn label next w live (monitorIn block) (eventAt k))
+unfoldable pub blockAfter : List ℕ → List ℕ → Ways → List ℕ → List ℕ → ℕ → List ℕ
+blockAfter label next w live block k = blockOf (advancedIn label next w live (monitorIn block) (eventAt k))
 
 -- what the lamp shows, as one number
 abbrev pub lampNumber : Lamp → ℕ
@@ -78,11 +78,11 @@ sameBlock room state r = allBelow 130 (wordAgrees room r state)
 
 -- so many places and rows are found: the blocks of a list are states, and the cells stand behind 256 of them
 pub record Found (label next : List ℕ) (w : Ways) (live : List ℕ) (opening : List ℕ) (c : ℕ) (room : List ℕ) (places rows : ℕ) : Type 0 where
-  pub exploring : Exploring c (stepOf label next w live) opening (blockAt 130 room) (drop 33280 room) places rows
+  pub exploring : Exploring c (blockAfter label next w live) opening (blockAt 130 room) (drop 33280 room) places rows
 
 -- the answer is 0 where more than 256 states are reached; else it is how many, each with its cells
 pub data Answer (label next : List ℕ) (w : Ways) (live : List ℕ) (opening : List ℕ) (c : ℕ) (room : List ℕ) : ℕ → Type 0 where
-  many : MoreThan c (stepOf label next w live) opening 256 → Answer label next w live opening c room 0
+  many : MoreThan c (blockAfter label next w live) opening 256 → Answer label next w live opening c room 0
   few : {r : ℕ} → r ≤ 256 → Found label next w live opening c room (r * c) r → Answer label next w live opening c room r
 
 -- ---- laws
@@ -91,14 +91,14 @@ pub block-length : (m : Monitor) → length (blockOf m) ≡ 130
 unfolding blockOf
 block-length m = length-list 130 (wordAt (digestOf m) (m .seen) (m .keeps .words) (m .breaks .words))
 
-pub step-length : (label next : List ℕ) (w : Ways) (live block : List ℕ) (k : ℕ) → length (stepOf label next w live block k) ≡ 130
-unfolding stepOf
+pub step-length : (label next : List ℕ) (w : Ways) (live block : List ℕ) (k : ℕ) → length (blockAfter label next w live block k) ≡ 130
+unfolding blockAfter
 step-length label next w live block k = block-length (advancedIn label next w live (monitorIn block) (eventAt k))
 
 -- a step as code takes it
 pub step-is : (label next : List ℕ) (w : Ways) (live block : List ℕ) (k : ℕ) {made : Monitor} {state : List ℕ}
-    → made ≡ advancedIn label next w live (monitorIn block) (eventAt k) → state ≡ blockOf made → state ≡ stepOf label next w live block k
-unfolding stepOf
+    → made ≡ advancedIn label next w live (monitorIn block) (eventAt k) → state ≡ blockOf made → state ≡ blockAfter label next w live block k
+unfolding blockAfter
 step-is label next w live block k m s = rw (s, m) refl
 
 -- from the state that is stored first

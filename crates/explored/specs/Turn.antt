@@ -18,7 +18,7 @@ use Rattle.ways.specs.declared.Ways.{Ways}
 use Rattle.machines.specs.First.{First, first-is}
 use Rattle.machines.specs.Explored.{MoreThan, exploring-start, exploring-old, exploring-new, exploring-more}
 use Rattle.explored.specs.Blocks.{blockAt, stored, block-here, block-other, block-before, cells-behind, cell-stored}
-use Rattle.explored.specs.States.{stepOf, step-length, wordAgrees, sameBlock, Found}
+use Rattle.explored.specs.States.{blockAfter, step-length, wordAgrees, sameBlock, Found}
 
 -- what the comparison of a block says
 same-says : (room state : List ℕ) (r : ℕ) → length state ≡ 130 → Says (sameBlock room state r) (blockAt 130 room r ≡ state)
@@ -35,7 +35,7 @@ module _ {label next : List ℕ} {w : Ways} {live : List ℕ} {opening : List �
   found-start room e = record { exploring = exploring-start (blockAt 130 room) (drop 33280 room) e }
 
   module _ {room : List ℕ} {places rows : ℕ} (found : Found label next w live opening c room places rows) (left : places < rows * c) (most : rows ≤ 256)
-      {row : ℕ} {state : List ℕ} (look : row ≡ firstBelow rows (sameBlock room state)) (step : state ≡ stepOf label next w live (blockAt 130 room (places / c)) (places % c)) where
+      {row : ℕ} {state : List ℕ} (look : row ≡ firstBelow rows (sameBlock room state)) (step : state ≡ blockAfter label next w live (blockAt 130 room (places / c)) (places % c)) where
     -- a state has 130 words
     long : length state ≡ 130
     long = rw step (step-length label next w live (blockAt 130 room (places / c)) (places % c))
@@ -70,7 +70,7 @@ module _ {label next : List ℕ} {w : Ways} {live : List ℕ} {opening : List �
         here : after row ≡ state
         here = block-before 130 33280 places row (stored 130 row state 130 room) row (omega arith) ∙ block-here 130 row state room long (omega arith)
 
-        there : after row ≡ stepOf label next w live (blockAt 130 room (places / c)) (places % c)
+        there : after row ≡ blockAfter label next w live (blockAt 130 room (places / c)) (places % c)
         there = here ∙ step
 
         kept : (r : ℕ) → r < rows → after r ≡ blockAt 130 room r
@@ -80,7 +80,7 @@ module _ {label next : List ℕ} {w : Ways} {live : List ℕ} {opening : List �
         ]
 
     -- a state for which there is no row left
-    pub found-full : row ≡ 256 → MoreThan c (stepOf label next w live) opening 256
+    pub found-full : row ≡ 256 → MoreThan c (blockAfter label next w live) opening 256
     found-full e =
         let all : rows ≡ 256 = omega (arith, looked .bound) in
         rw all at (exploring-more (found .exploring) left (λ r h i. fresh (e ∙ sym all) r h (i ∙ sym step)))

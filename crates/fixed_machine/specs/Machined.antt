@@ -39,7 +39,7 @@ use Rattle.sides.specs.Sides.{openedBy, advancedIn}
 use Rattle.sides.specs.SidesRight.{opened-right, advanced-right}
 use Rattle.columns.specs.Columns.{columnsOf, eventAt, countOf, columns-count, columns-at}
 use Rattle.machines.specs.Coded.{Coded, coded-made, coded-more, coded-back}
-use Rattle.explored.specs.States.{lampNumber, blockOf, monitorIn, stepOf, answerOf, block-back}
+use Rattle.explored.specs.States.{lampNumber, blockOf, monitorIn, blockAfter, answerOf, block-back}
 use Rattle.fixed_machine.specs.declared.Made.{Made}
 use Rattle.fixed_machine.specs.declared.Made.the-variants as Mades
 use Rattle.fixed_machine.specs.Worked.{Laid, Worked, over, made, WorkedOn}
@@ -120,14 +120,14 @@ module _ (p : Plant) (fair label next : List ℕ) (rule : Rule) (given : Input p
   read-back : (m : model.Monitor) → Sets m → monitorIn (code m) ≡ monitorOf 0 m
   read-back m sets = block-back (monitorOf 0 m) refl (sets true .long) (sets false .long)
 
-  steps-in : (m : model.Monitor) (k : ℕ) → k < countOf (p .props) → Sets m → stepOf label next (waysOf label rule) (liveSet T f) (code m) k ≡ code (stepAt T f (liveSet T f) m k)
-  unfolding stepOf stepAt
+  steps-in : (m : model.Monitor) (k : ℕ) → k < countOf (p .props) → Sets m → blockAfter label next (waysOf label rule) (liveSet T f) (code m) k ≡ code (stepAt T f (liveSet T f) m k)
+  unfolding blockAfter stepAt
   steps-in m k l sets =
       ap (λ (x : Monitor). blockOf (advancedIn label next (waysOf label rule) (liveSet T f) x (eventAt k))) (read-back m sets)
       ∙ ap blockOf (advanced-right T f (given .table) (given .few) rule (right given) (liveSet T f) lives (monitorOf 0 m) sets (eventAt k))
       ∙ ap (λ (e : _). code (model.stepOf T f (liveSet T f) m (eventOf e))) (sym (columns-at (p .props) (given .table .some-props) few k l))
 
-  coded : Coded (countOf (p .props)) (stepOf label next (waysOf label rule) (liveSet T f)) answerOf (blockOf (openedBy (p .start) (waysOf label rule .holds) (liveSet T f)))
+  coded : Coded (countOf (p .props)) (blockAfter label next (waysOf label rule) (liveSet T f)) answerOf (blockOf (openedBy (p .start) (waysOf label rule .holds) (liveSet T f)))
       (stepAt T f (liveSet T f)) shownIn (model.opening T f (liveSet T f)) code Sets
   unfolding answerOf stepAt
   coded = record {

@@ -26,7 +26,7 @@ use Rattle.machines.specs.Joined.{joined, joined-fewer}
 use Rattle.machines.specs.Made as machines
 use Rattle.joined.specs.Written.{written, written-at}
 use Rattle.explored.specs.Blocks.{blockAt}
-use Rattle.explored.specs.States.{blockOf, stepOf, answerOf, Found, Answer, many, few}
+use Rattle.explored.specs.States.{blockOf, blockAfter, answerOf, Found, Answer, many, few}
 use Rattle.fixed_machine.specs.declared.Made.{Made}
 use Rattle.fixed_machine.specs.declared.Made.the-variants as Mades
 
@@ -50,7 +50,7 @@ abbrev pub machineIn : List ℕ → ℕ → ℕ → Machine
 machineIn room n c = machineOf (written n (λ r. answerOf (blockAt 130 room r)) (replicate 256 0)) (drop 33280 room) n c
 
 abbrev pub WorkedIn : List ℕ → List ℕ → Ways → List ℕ → Monitor → ℕ → List ℕ → List ℕ → Made → Type 0
-WorkedIn label next w live first c old new r = Worked c (stepOf label next w live) answerOf (blockOf first) old new r
+WorkedIn label next w live first c old new r = Worked c (blockAfter label next w live) answerOf (blockOf first) old new r
 
 -- with what the rule says
 abbrev pub WorkedOn : ℕ → ℕ → List ℕ → List ℕ → Rule → List ℕ → List ℕ → List ℕ → Made → Type 0
@@ -61,10 +61,10 @@ WorkedOn start props label next rule live old new r =
 
 module _ {label next : List ℕ} {w : Ways} {live opening : List ℕ} {c : ℕ} {room : List ℕ} {n : ℕ} (answer : Answer label next w live opening c room n) where
   -- no rows are the answer where there are too many
-  pub found-none : n ≡ 0 → MoreThan c (stepOf label next w live) opening 256
+  pub found-none : n ≡ 0 → MoreThan c (blockAfter label next w live) opening 256
   found-none = go answer
     where
-      go : {n : ℕ} → Answer label next w live opening c room n → n ≡ 0 → MoreThan c (stepOf label next w live) opening 256
+      go : {n : ℕ} → Answer label next w live opening c room n → n ≡ 0 → MoreThan c (blockAfter label next w live) opening 256
       go (many more) e = more
       go (few l found) e = absurd (omega (arith, found .exploring .grown .some))
 
@@ -85,7 +85,7 @@ module _ {label next : List ℕ} {w : Ways} {live opening : List ℕ} {c : ℕ} 
   found-in = found-proper (written n (λ r. answerOf (blockAt 130 room r)) (replicate 256 0))
 
   -- and joined they are the fixed one
-  pub worked : n ≤ 256 → {old new : List ℕ} {r : Made} → Laid c (joined c (machineIn room n c)) old new r → Worked c (stepOf label next w live) answerOf opening old new r
+  pub worked : n ≤ 256 → {old new : List ℕ} {r : Made} → Laid c (joined c (machineIn room n c)) old new r → Worked c (blockAfter label next w live) answerOf opening old new r
   worked l laid = made (joined c (machineIn room n c)) (explored-most (found .exploring) 256 l)
       (machines.joined-made (found .exploring) answerOf (written n (λ r. answerOf (blockAt 130 room r)) (replicate 256 0))
       (λ r h. written-at n (λ r. answerOf (blockAt 130 room r)) (replicate 256 0) r h (omega (arith, length-replicate {A = ℕ} 256 0)))) laid

@@ -9,7 +9,7 @@ use lib.ListN.{length, getD, drop, length-append, length-drop, List·getD-append
 use lib.Seq.{drop-append-le}
 use borrow.Author.Tests.{lt-ltb}
 use Rattle.report_text.specs.declared.Cursor.{Cursor}
-use Rattle.report_text.specs.Form.{cursor, stepOf, wordFrom, isDigit, goesOn, listEnd, listTo, listOf, claimKey, verdictWord, claimBy, verdictFrom, claimOf, stemKey, loopKey, lf, refusedLine, shownRun, missing, runLine, runOf}
+use Rattle.report_text.specs.Form.{cursor, byteTaken, wordFrom, isDigit, goesOn, listEnd, listTo, listOf, claimKey, verdictWord, claimBy, verdictFrom, claimOf, stemKey, loopKey, lf, refusedLine, shownRun, missing, runLine, runOf}
 use Rattle.report_promises.specs.Walk.{kindKey}
 use Rattle.report_promises.specs.Stages.{behindAll}
 
@@ -55,8 +55,8 @@ stay = record { grows = λ s c. omega arith; same = λ P r r' c h. refl }
 
 -- ---- words
 
-step-grows : (s : List ℕ) (c : Cursor) (b : ℕ) → c .at ≤ stepOf s c b .at
-unfolding stepOf
+step-grows : (s : List ℕ) (c : Cursor) (b : ℕ) → c .at ≤ byteTaken s c b .at
+unfolding byteTaken
 step-grows s c b = by (ltb (c .at) (length s)) (c .ok && eqb (getD s (c .at) 0) b)
   where
     by : (t u : Bool) → c .at ≤ cond t (cond u (cursor true (c .at + 1)) (cursor false (c .at))) (cursor false (c .at)) .at
@@ -64,21 +64,21 @@ step-grows s c b = by (ltb (c .at) (length s)) (c .ok && eqb (getD s (c .at) 0) 
     by true false = omega arith
     by false u = omega arith
 
-step-same : (P r r' : List ℕ) (c : Cursor) (b : ℕ) → c .at < length P → stepOf (P ++ r) c b ≡ stepOf (P ++ r') c b
-unfolding stepOf
+step-same : (P r r' : List ℕ) (c : Cursor) (b : ℕ) → c .at < length P → byteTaken (P ++ r) c b ≡ byteTaken (P ++ r') c b
+unfolding byteTaken
 step-same P r r' c b h = rw (inside P r (c .at) h, inside P r' (c .at) h, byte-same P r r' (c .at) h) refl
 
 word-grows : (w s : List ℕ) (c : Cursor) → c .at ≤ wordFrom s c w .at
 unfolding wordFrom
 word-grows [] s c = omega arith
-word-grows (b ∷ w) s c = omega (arith, step-grows s c b, word-grows w s (stepOf s c b))
+word-grows (b ∷ w) s c = omega (arith, step-grows s c b, word-grows w s (byteTaken s c b))
 
 word-same : (w P r r' : List ℕ) (c : Cursor) → wordFrom (P ++ r) c w .at < length P → wordFrom (P ++ r) c w ≡ wordFrom (P ++ r') c w
 unfolding wordFrom
 word-same [] P r r' c h = refl
 word-same (b ∷ w) P r r' c h =
-    word-same w P r r' (stepOf (P ++ r) c b) h
-    ∙ ap (λ (x : Cursor). wordFrom (P ++ r') x w) (step-same P r r' c b (omega (arith, h, step-grows (P ++ r) c b, word-grows w (P ++ r) (stepOf (P ++ r) c b))))
+    word-same w P r r' (byteTaken (P ++ r) c b) h
+    ∙ ap (λ (x : Cursor). wordFrom (P ++ r') x w) (step-same P r r' c b (omega (arith, h, step-grows (P ++ r) c b, word-grows w (P ++ r) (byteTaken (P ++ r) c b))))
 
 word-local : (w : List ℕ) → Local (λ s c. wordFrom s c w)
 word-local w = record { grows = λ s c. word-grows w s c; same = word-same w }

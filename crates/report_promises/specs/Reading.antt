@@ -11,7 +11,7 @@ use lib.Seq.{drop-append-seam, getD-append-seam}
 use borrow.Author.Tests.{lt-ltb, le-ltb, eqb-true}
 use Rattle.words.specs.Truth.{and-says}
 use Rattle.report_text.specs.declared.Cursor.{Cursor}
-use Rattle.report_text.specs.Form.{cursor, stepOf, wordFrom, isDigit, goesOn, listEnd, listTo, listOf}
+use Rattle.report_text.specs.Form.{cursor, byteTaken, wordFrom, isDigit, goesOn, listEnd, listTo, listOf}
 use Rattle.report_promises.specs.Walk.{through, IsList}
 use Rattle.report_promises.specs.ReportForm.{IsReport, Begins}
 
@@ -29,7 +29,7 @@ pub data Ends (Next : List ℕ → Type 0) (p r : List ℕ) (c : Cursor) : Type 
 
 -- a cursor that stays
 pub word-stays : (s : List ℕ) (i : ℕ) (w : List ℕ) → wordFrom s (cursor false i) w ≡ cursor false i
-unfolding wordFrom stepOf
+unfolding wordFrom byteTaken
 word-stays s i [] = refl
 word-stays s i (b ∷ w) = by (ltb i (length s)) (word-stays s i w)
   where
@@ -53,11 +53,11 @@ none-of : (p : List ℕ) → length p ≡ length (p ++ [])
 none-of p = sym (ap length (append-nil p))
 
 word-ends : (w p r : List ℕ) → WordEnds p r w (wordFrom (p ++ r) (cursor true (length p)) w)
-unfolding wordFrom stepOf
+unfolding wordFrom byteTaken
 word-ends [] p r = full r refl (ap (cursor true) (none-of p))
 word-ends (b ∷ w) p [] = broken [] (b ∷ w) [] refl refl (stuck ∙ ap (cursor false) (none-of p))
   where
-    stuck : wordFrom (p ++ []) (stepOf (p ++ []) (cursor true (length p)) b) w ≡ cursor false (length p)
+    stuck : wordFrom (p ++ []) (byteTaken (p ++ []) (cursor true (length p)) b) w ≡ cursor false (length p)
     stuck = rw (le-ltb (length p) (length (p ++ [])) (omega (arith, none-of p))) (word-stays (p ++ []) (length p) w)
 word-ends (b ∷ w) p (x ∷ r) = by (eqb x b) refl (word-ends w (p ++ b ∷ []) r)
   where
@@ -67,17 +67,17 @@ word-ends (b ∷ w) p (x ∷ r) = by (eqb x b) refl (word-ends w (p ++ b ∷ [])
     here : getD (p ++ x ∷ r) (length p) 0 ≡ x
     here = getD-append-seam p x r 0
 
-    stepped : (t : Bool) → eqb x b ≡ t → stepOf (p ++ x ∷ r) (cursor true (length p)) b ≡ cond t (cursor true (length p + 1)) (cursor false (length p))
+    stepped : (t : Bool) → eqb x b ≡ t → byteTaken (p ++ x ∷ r) (cursor true (length p)) b ≡ cond t (cursor true (length p + 1)) (cursor false (length p))
     stepped t e = rw (inside, here, e) refl
 
     by : (t : Bool) → eqb x b ≡ t → WordEnds (p ++ b ∷ []) r w (wordFrom ((p ++ b ∷ []) ++ r) (cursor true (length (p ++ b ∷ []))) w)
-        → WordEnds p (x ∷ r) (b ∷ w) (wordFrom (p ++ x ∷ r) (stepOf (p ++ x ∷ r) (cursor true (length p)) b) w)
+        → WordEnds p (x ∷ r) (b ∷ w) (wordFrom (p ++ x ∷ r) (byteTaken (p ++ x ∷ r) (cursor true (length p)) b) w)
     by true e more =
         let same : x ≡ b = eqb-true x b e in
         let text : (p ++ b ∷ []) ++ r ≡ p ++ x ∷ r = append-assoc p (b ∷ []) r ∙ ap (λ (y : ℕ). p ++ y ∷ r) (sym same) in
-        let at : cursor true (length (p ++ b ∷ [])) ≡ stepOf (p ++ x ∷ r) (cursor true (length p)) b = ap (cursor true) (length-append p (b ∷ [])) ∙ sym (stepped true e) in
-        subst (λ (y : ℕ). WordEnds p (y ∷ r) (b ∷ w) (wordFrom (p ++ x ∷ r) (stepOf (p ++ x ∷ r) (cursor true (length p)) b) w)) (sym same)
-        (longer p r w b _ (subst (λ (s : List ℕ). WordEnds (p ++ b ∷ []) r w (wordFrom s (stepOf (p ++ x ∷ r) (cursor true (length p)) b) w)) text
+        let at : cursor true (length (p ++ b ∷ [])) ≡ byteTaken (p ++ x ∷ r) (cursor true (length p)) b = ap (cursor true) (length-append p (b ∷ [])) ∙ sym (stepped true e) in
+        subst (λ (y : ℕ). WordEnds p (y ∷ r) (b ∷ w) (wordFrom (p ++ x ∷ r) (byteTaken (p ++ x ∷ r) (cursor true (length p)) b) w)) (sym same)
+        (longer p r w b _ (subst (λ (s : List ℕ). WordEnds (p ++ b ∷ []) r w (wordFrom s (byteTaken (p ++ x ∷ r) (cursor true (length p)) b) w)) text
         (subst (λ (c : Cursor). WordEnds (p ++ b ∷ []) r w (wordFrom ((p ++ b ∷ []) ++ r) c w)) at more)))
     by false e more =
         broken [] (b ∷ w) (x ∷ r) refl refl

@@ -13,7 +13,7 @@ use Rattle.words.specs.Truth.{and-says}
 use Rattle.report_text.specs.declared.Cursor.{Cursor}
 use Rattle.report_text.specs.declared.RunRead.{RunRead}
 use Rattle.report_text.specs.Form as form
-use Rattle.report_text.specs.Form.{cursor, stepOf, wordFrom, isDigit, goesOn, listTo, listOf, claimKey, verdictWord, claimBy, verdictFrom, claimed, part, runRead, stemKey, loopKey, refusedLine, shownRun, missing, runOf, keepsKey, breaksKey}
+use Rattle.report_text.specs.Form.{cursor, byteTaken, wordFrom, isDigit, goesOn, listTo, listOf, claimKey, verdictWord, claimBy, verdictFrom, claimed, part, runRead, stemKey, loopKey, refusedLine, shownRun, missing, runOf, keepsKey, breaksKey}
 use Rattle.report_text.specs.States.{partOf}
 use Rattle.report_text.proofs.Whole.{claim-is, shown-is, line-is, run-is}
 
@@ -34,7 +34,7 @@ past s w rest i e = sym (drop-drop (length w) i s) ∙ ap (drop (length w)) e �
 -- ---- words
 
 pub word-through : (s w rest : List ℕ) (i : ℕ) → drop i s ≡ w ++ rest → cursor true (i + length w) ≡ wordFrom s (cursor true i) w
-unfolding wordFrom stepOf
+unfolding wordFrom byteTaken
 word-through s [] rest i e = ap (cursor true) (omega arith)
 word-through s (b ∷ w) rest i e =
     let (low, is, on) = cons-at s i b (w ++ rest) e in

@@ -7,7 +7,7 @@ use native.Mathlib.Numerals.{add-one}
 use lib.ListN.{length, getD, drop, drop-of-length-le}
 use lib.Seq.{drop-cons}
 use Rattle.report_text.specs.declared.Cursor.{Cursor}
-use Rattle.report_text.specs.Form.{stepOf, wordFrom, isDigit, goesOn, listEnd, listTo}
+use Rattle.report_text.specs.Form.{byteTaken, wordFrom, isDigit, goesOn, listEnd, listTo}
 
 -- a text's byte at a place, and the text from the next place on
 pub byte : (s : List ℕ) (at : ℕ) → at < length s → drop at s ≡ getD s at 0 ∷ drop (at + 1) s
@@ -15,7 +15,7 @@ byte s at h = rw (add-one, drop-cons s at 0)
 
 -- ---- known bytes
 
-pub word-turn : (s known : List ℕ) (d e : Cursor) (i : ℕ) → i < length known → e ≡ stepOf s d (getD known i 0)
+pub word-turn : (s known : List ℕ) (d e : Cursor) (i : ℕ) → i < length known → e ≡ byteTaken s d (getD known i 0)
     → wordFrom s e (drop (i + 1) known) ≡ wordFrom s d (drop i known)
 unfolding wordFrom
 word-turn s known d e i h is = ap (λ (x : Cursor). wordFrom s x (drop (i + 1) known)) is ∙ sym (ap (wordFrom s d) (byte known i h))

@@ -23,13 +23,13 @@ abbrev pub cursor : Bool → ℕ → Cursor
 cursor ok at = record { ok = ok; at = at }
 
 -- one known byte
-unfoldable pub stepOf : List ℕ → Cursor → ℕ → Cursor
-stepOf s c b = cond (ltb (c .at) (length s)) (cond (c .ok && eqb (getD s (c .at) 0) b) (cursor true (c .at + 1)) (cursor false (c .at))) (cursor false (c .at))
+unfoldable pub byteTaken : List ℕ → Cursor → ℕ → Cursor
+byteTaken s c b = cond (ltb (c .at) (length s)) (cond (c .ok && eqb (getD s (c .at) 0) b) (cursor true (c .at + 1)) (cursor false (c .at))) (cursor false (c .at))
 
 -- known bytes
 unfoldable pub wordFrom : List ℕ → Cursor → List ℕ → Cursor
 wordFrom s c [] = c
-wordFrom s c (b ∷ w) = wordFrom s (stepOf s c b) w
+wordFrom s c (b ∷ w) = wordFrom s (byteTaken s c b) w
 
 -- ---- lists of states
 

@@ -5,7 +5,7 @@ pub mod states;
 ghost use mathlib.Core.Path.{_≡_};
 ghost use lib.ListN.{getD};
 ghost use Rattle.report_text.specs.Form.{
-  stepOf,
+  byteTaken,
   wordFrom,
   isDigit,
   goesOn,
@@ -85,7 +85,7 @@ fn byte_at(text: &[u8], at: usize) -> u8
 
 // One known byte.
 fn step(text: &[u8], c: Cursor, b: u8) -> Cursor
-    ensures { λ r. ⌜ r ≡ stepOf (now (text .entry)) c b ⌝ }
+    ensures { λ r. ⌜ r ≡ byteTaken (now (text .entry)) c b ⌝ }
 {
     let at = c.at;
     if at < text.len() {

@@ -15,7 +15,7 @@ use Rattle.sheet.specs.declared.State.{State}
 use Rattle.sheet.specs.declared.State.the-variants.{Before, Name, Value, Stuck}
 use Rattle.sheet.specs.declared.Grown.{Grown}
 use Rattle.sheet.specs.declared.Grown.the-variants.{To, Not}
-use Rattle.sheet.specs.Machine.{lineBy, begun, keyByte, keySize, named, valueGrown, further, ended, stepOf, sizeOf, stuck, filed, scanFrom}
+use Rattle.sheet.specs.Machine.{lineBy, begun, keyByte, keySize, named, valueGrown, further, ended, stateAfter, sizeOf, stuck, filed, scanFrom}
 
 -- a text's byte at a place, and the text from the next place on
 pub byte : (s : List ℕ) (at : ℕ) → at < length s → drop at s ≡ getD s at 0 ∷ drop (at + 1) s
@@ -30,8 +30,8 @@ either true P x y f g = f refl
 either false P x y f g = g refl
 
 -- a byte makes the numbers of a state greater by one at most, or they are small
-pub small : (st : State) (b n : ℕ) → sizeOf st ≤ n + 3 → sizeOf (stepOf st b) ≤ n + 1 + 3
-unfolding stepOf begun named ended
+pub small : (st : State) (b n : ℕ) → sizeOf st ≤ n + 3 → sizeOf (stateAfter st b) ≤ n + 1 + 3
+unfolding stateAfter begun named ended
 small (Before k) b n h =
     either (ltb (lineBy b) k) (λ x. sizeOf x ≤ n + 1 + 3) _ _ (λ e. omega arith)
     (λ e. either (ltb (lineBy b) 3) (λ x. sizeOf x ≤ n + 1 + 3) _ _ (λ f. omega (arith, ltb-true (lineBy b) 3 f)) (λ f. omega arith))
@@ -48,7 +48,7 @@ small (Value k at m) b n h =
 small Stuck b n h = omega arith
 
 -- the machine at a byte: stuck, or one place further
-pub turn : (l : Lines) (st st′ : State) (i : ℕ) (s : List ℕ) → i < length s → st′ ≡ stepOf st (getD s i 0)
+pub turn : (l : Lines) (st st′ : State) (i : ℕ) (s : List ℕ) → i < length s → st′ ≡ stateAfter st (getD s i 0)
     → scanFrom l st i (drop i s) ≡ cond (stuck st′) (Bad i) (scanFrom (filed l st (getD s i 0)) st′ (i + 1) (drop (i + 1) s))
 unfolding scanFrom
 turn l st st′ i s h e =

@@ -16,7 +16,7 @@ use Rattle.sheet.specs.Machine.{
   byteGrown,
   valueGrown,
   ended,
-  stepOf,
+  stateAfter,
   linesAs,
   fileAs,
   filed,
@@ -34,5 +34,5 @@ pub examples :
     × (scanOf (line editionKey (54 ∷ 53 ∷ 53 ∷ 51 ∷ 54 ∷ [])) ≡ Bad 12) × (scanOf (line closingKey (49 ∷ 48 ∷ 48 ∷ [])) ≡ Bad 10) × (scanOf (line editionKey (48 ∷ [])) ≡ Bad 8)
     × (scanOf (line closingKey (48 ∷ 53 ∷ [])) ≡ Bad 9) × (scanOf (line ruleKey []) ≡ Bad 5) × (scanOf (101 ∷ 100 ∷ []) ≡ Bad 2)
     × (scanOf (line ruleKey (112 ∷ []) ++ line editionKey (49 ∷ [])) ≡ Bad 7) × (scanOf (line closingKey (48 ∷ []) ++ line closingKey (48 ∷ [])) ≡ Bad 10)
-unfolding lineBy begun keyByte keySize named leadZero ranged digitGrown byteGrown valueGrown ended stepOf fileAs filed scanFrom scanOf
+unfolding lineBy begun keyByte keySize named leadZero ranged digitGrown byteGrown valueGrown ended stateAfter fileAs filed scanFrom scanOf
 examples = (refl, refl, refl, refl, refl, refl, refl, refl, refl, refl)

@@ -60,11 +60,11 @@ ended k at = cond (eqb at 0) Stuck (Before (k + 1))
 
 -- ---- a byte
 
-unfoldable pub stepOf : State → ℕ → State
-stepOf (Before k) b = begun k (lineBy b)
-stepOf (Name k i) b = cond (eqb b (keyByte k i)) (named k (i + 1)) Stuck
-stepOf (Value k at n) b = cond (eqb b 10) (ended k at) (further k at (valueGrown k at n b))
-stepOf Stuck b = Stuck
+unfoldable pub stateAfter : State → ℕ → State
+stateAfter (Before k) b = begun k (lineBy b)
+stateAfter (Name k i) b = cond (eqb b (keyByte k i)) (named k (i + 1)) Stuck
+stateAfter (Value k at n) b = cond (eqb b 10) (ended k at) (further k at (valueGrown k at n b))
+stateAfter Stuck b = Stuck
 
 -- no number in a state is greater
 abbrev pub sizeOf : State → ℕ
@@ -105,7 +105,7 @@ filed l Stuck b = l
 -- the text s stands from place i on, the lines read are l, and the machine is in the state st
 unfoldable pub scanFrom : Lines → State → ℕ → List ℕ → Scan
 scanFrom l st i [] = cond (may st) (Good l) (Bad i)
-scanFrom l st i (b ∷ s) = cond (stuck (stepOf st b)) (Bad i) (scanFrom (filed l st b) (stepOf st b) (i + 1) s)
+scanFrom l st i (b ∷ s) = cond (stuck (stateAfter st b)) (Bad i) (scanFrom (filed l st b) (stateAfter st b) (i + 1) s)
 
 abbrev pub begin : List ℕ → Scan
 begin s = scanFrom (linesAs 0 0 0 0) (Before 0) 0 s

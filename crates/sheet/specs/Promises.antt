@@ -17,7 +17,7 @@ use Rattle.sheet.specs.declared.Scan.the-variants.{Good, Bad}
 use Rattle.sheet.specs.declared.State.{State}
 use Rattle.sheet.specs.declared.State.the-variants.{Before, Name, Value, Stuck}
 use Rattle.sheet.specs.Sheet.{numberFrom, Values, IsSheet, Begins, StopsAt, Malformed, too-long, stops-at}
-use Rattle.sheet.specs.Machine.{stepOf, stuck, may, filed, scanFrom, begin, scanOf}
+use Rattle.sheet.specs.Machine.{stateAfter, stuck, may, filed, scanFrom, begin, scanOf}
 use Rattle.sheet.specs.Short.{sheet-short}
 use Rattle.sheet.specs.Read.{linesOf, sheet-read}
 use Rattle.sheet.specs.Reached.{Reached, before, naming, giving, reached-none, reached-begins, reached-more}
@@ -68,7 +68,7 @@ at-end p l st h = rw (append-nil p) (by-state st (h .reached) h)
     by-state Stuck r h = too-soon p l Stuck h refl
 
 -- a byte comes that may not
-stops-here : (p s : List ℕ) (b : ℕ) (l : Lines) (st : State) → Passed p l st → stuck (stepOf st b) ≡ true → StopsAt (p ++ b ∷ s) (length p)
+stops-here : (p s : List ℕ) (b : ℕ) (l : Lines) (st : State) → Passed p l st → stuck (stateAfter st b) ≡ true → StopsAt (p ++ b ∷ s) (length p)
 unfolding scanFrom
 stops-here p s b l st h e =
     record {
@@ -89,15 +89,15 @@ stops-here p s b l st h e =
 all-right : (p s : List ℕ) (l : Lines) (st : State) → Passed p l st → Right (p ++ s) (scanFrom l st (length p) s)
 unfolding scanFrom
 all-right p [] l st h = at-end p l st h
-all-right p (b ∷ s) l st h = by-test (stuck (stepOf st b)) refl (all-right (p ++ b ∷ []) s (filed l st b) (stepOf st b))
+all-right p (b ∷ s) l st h = by-test (stuck (stateAfter st b)) refl (all-right (p ++ b ∷ []) s (filed l st b) (stateAfter st b))
   where
     n : length (p ++ b ∷ []) ≡ length p + 1
     n = length-append p (b ∷ [])
 
     by-test :
-        (t : Bool) → stuck (stepOf st b) ≡ t
-        → (Passed (p ++ b ∷ []) (filed l st b) (stepOf st b) → Right ((p ++ b ∷ []) ++ s) (scanFrom (filed l st b) (stepOf st b) (length (p ++ b ∷ [])) s))
-        → Right (p ++ b ∷ s) (cond t (Bad (length p)) (scanFrom (filed l st b) (stepOf st b) (length p + 1) s))
+        (t : Bool) → stuck (stateAfter st b) ≡ t
+        → (Passed (p ++ b ∷ []) (filed l st b) (stateAfter st b) → Right ((p ++ b ∷ []) ++ s) (scanFrom (filed l st b) (stateAfter st b) (length (p ++ b ∷ [])) s))
+        → Right (p ++ b ∷ s) (cond t (Bad (length p)) (scanFrom (filed l st b) (stateAfter st b) (length p + 1) s))
     by-test true e k = stops-here p s b l st h e
     by-test false e k =
         rw (append-assoc p (b ∷ []) s, n) at

@@ -15,7 +15,7 @@ use Rattle.sheet.specs.declared.State.the-variants.{Before, Name, Value,
 use Rattle.sheet.specs.declared.Grown.{Grown}
 use Rattle.sheet.specs.declared.Grown.the-variants.{To, Not}
 use Rattle.sheet.specs.Sheet.{editionKey, ruleKey, closingKey, Each, none, more, numberFrom, Decimal, Printable, Values, lineOf, textOf, Given, left-out, given, IsSheet, Begins}
-use Rattle.sheet.specs.Machine.{lineBy, begun, keyByte, keySize, named, valueGrown, further, ended, stepOf, stuck, fileAs, filed}
+use Rattle.sheet.specs.Machine.{lineBy, begun, keyByte, keySize, named, valueGrown, further, ended, stateAfter, stuck, fileAs, filed}
 use Rattle.sheet.specs.Value.{FineOf, amount, fine-some, fine}
 use Rattle.sheet.specs.Read.{keyOf, linesOf}
 
@@ -233,8 +233,8 @@ module _ {p : List ℕ} {l : Lines} (b : ℕ) where
 
   giving-more :
       {k at n : ℕ} (s u : List ℕ) (x : Values) → k < 3 → p ≡ s ++ (keyOf k ++ u) → Lined k s x l → Given (FineOf k) u → at ≡ length u → n ≡ amount k u
-      → stuck (stepOf (Value k at n) b) ≡ false → Reached (p ++ b ∷ []) (filed l (Value k at n) b) (stepOf (Value k at n) b)
-  unfolding stepOf filed ended
+      → stuck (stateAfter (Value k at n) b) ≡ false → Reached (p ++ b ∷ []) (filed l (Value k at n) b) (stateAfter (Value k at n) b)
+  unfolding stateAfter filed ended
   giving-more {k} {at} {n} s u x h e d g a m r = by-test (eqb b 10) (eqb-true b 10) r
     where
       text : p ++ b ∷ [] ≡ s ++ (keyOf k ++ (u ++ b ∷ []))
@@ -255,8 +255,8 @@ module _ {p : List ℕ} {l : Lines} (b : ℕ) where
       by-test true is z = let c = alive (eqb at 0) (Before (k + 1)) z in rw (c .0) (line (eqb-false at 0 (c .0)) (is refl))
       by-test false is z = grown (valueGrown k at n b) refl z
 
-pub reached-more : {p : List ℕ} {l : Lines} {st : State} → Reached p l st → (b : ℕ) → stuck (stepOf st b) ≡ false → Reached (p ++ b ∷ []) (filed l st b) (stepOf st b)
-unfolding stepOf filed
+pub reached-more : {p : List ℕ} {l : Lines} {st : State} → Reached p l st → (b : ℕ) → stuck (stateAfter st b) ≡ false → Reached (p ++ b ∷ []) (filed l st b) (stateAfter st b)
+unfolding stateAfter filed
 reached-more (before x d) b r = before-more b x d r
 reached-more (naming {k} {i} s x h g f e d) b r =
     let c = live (eqb b (keyByte k i)) (named k (i + 1)) r in

@@ -19,7 +19,7 @@ use Rattle.sheet.specs.Machine.{
   keySize,
   named,
   ended,
-  stepOf,
+  stateAfter,
   fileAs,
   filed,
   scanFrom,
@@ -44,7 +44,7 @@ pub record Reads (l : Lines) (st : State) (s : List ℕ) (m : Lines) : Type 0 wh
 reads-value :
     (k : ℕ) (u v s : List ℕ) (l m : Lines) → k < 3 → FineOf k (u ++ v) → Reads (fileAs l k (length (u ++ v)) (amount k (u ++ v))) (Before (k + 1)) s m
     → Reads l (Value k (length u) (amount k u)) (v ++ 10 ∷ s) m
-unfolding scanFrom stepOf ended filed
+unfolding scanFrom stateAfter ended filed
 reads-value k u [] s l m h f r =
     let e : u ++ [] ≡ u = append-nil u in
     let z = fine-some k (u ++ []) f in
@@ -58,7 +58,7 @@ reads-value k u (b ∷ v) s l m h f r =
 
 -- a key, where its line may come
 reads-key : (k j : ℕ) (s : List ℕ) (l m : Lines) → k < 3 → j ≤ k → Reads l (Value k 0 0) s m → Reads l (Before j) (keyOf k ++ s) m
-unfolding scanFrom stepOf begun lineBy keyByte keySize named filed
+unfolding scanFrom stateAfter begun lineBy keyByte keySize named filed
 reads-key zero j s l m h g r = record { reads = λ i. rw (le-ltb 0 j g) (r .reads _) }
 reads-key (suc zero) j s l m h g r = record { reads = λ i. rw (le-ltb 1 j g) (r .reads _) }
 reads-key (suc (suc zero)) j s l m h g r = record { reads = λ i. rw (le-ltb 2 j g) (r .reads _) }

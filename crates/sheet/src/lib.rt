@@ -17,7 +17,7 @@ ghost use Rattle.sheet.specs.Machine.{
   valueGrown,
   further,
   ended,
-  stepOf,
+  stateAfter,
   sizeOf,
   stuck,
   may,
@@ -255,7 +255,7 @@ fn end(k: usize, at: usize) -> State
 // The state behind a byte of a key.
 fn in_name(k: usize, i: usize, b: u8) -> State
     requires { ⌜ i < 4096 ⌝ }
-    ensures { λ r. ⌜ r ≡ stepOf (Name k i) b ⌝ }
+    ensures { λ r. ⌜ r ≡ stateAfter (Name k i) b ⌝ }
 {
     if b == key_byte(k, i) {
         return name(k, i + 1);
@@ -266,7 +266,7 @@ fn in_name(k: usize, i: usize, b: u8) -> State
 // The state behind a byte of a value, or the LF that ends it.
 fn in_value(k: usize, at: usize, n: usize, b: u8) -> State
     requires { ⌜ k + at < 4096 ⌝ }
-    ensures { λ r. ⌜ r ≡ stepOf (Value k at n) b ⌝ }
+    ensures { λ r. ⌜ r ≡ stateAfter (Value k at n) b ⌝ }
 {
     if b == 10 {
         return end(k, at);
@@ -277,7 +277,7 @@ fn in_value(k: usize, at: usize, n: usize, b: u8) -> State
 // The state behind a byte.
 fn step(state: State, b: u8) -> State
     requires { ⌜ sizeOf state < 4096 ⌝ }
-    ensures { λ r. ⌜ r ≡ stepOf state b ⌝ }
+    ensures { λ r. ⌜ r ≡ stateAfter state b ⌝ }
 {
     match state {
         State::Before(k) => begin(k, line_by(b)),

@@ -2,12 +2,12 @@
 use mathlib.Core.Path.{sym, _∙_}
 use borrow.Author.Needs.{needs}
 use borrow.Author.Tests.{eq-eqb, ne-eqb}
-use Rattle.sheet.specs.Machine.{stepOf}
+use Rattle.sheet.specs.Machine.{stateAfter}
 use Rattle.sheet.proofs.in_name.Statement.{statement}
 use Rattle.sheet.proofs.in_name.Tie as tie
 
 pub in-name-spec : {M : Type 1} → statement M
-unfolding stepOf
+unfolding stateAfter
 in-name-spec =
     tie.close (tie.spec
     (λ c κs. search needs)

@@ -2,12 +2,12 @@
 use mathlib.Core.Path.{sym, ap}
 use borrow.Author.Needs.{needs}
 use native.Mathlib.Omega.{arith}
-use Rattle.sheet.specs.Machine.{stepOf}
+use Rattle.sheet.specs.Machine.{stateAfter}
 use Rattle.sheet.proofs.step.Statement.{statement}
 use Rattle.sheet.proofs.step.Tie as tie
 
 pub step-spec : {M : Type 1} → statement M
-unfolding stepOf
+unfolding stateAfter
 step-spec =
     tie.close (tie.spec
     (λ c. search needs)
@@ -21,4 +21,4 @@ step-spec =
     (λ c. rw (c .before .before .before .state .given .1, ← c .before .line-by .ensures) (c .begin .ensures))
     (λ c. rw (c .before .before .state2 .given .1) (c .in-name .ensures))
     (λ c. rw (c .before .before .state3 .given .1) (c .in-value .ensures))
-    (λ c. sym (ap (λ x. stepOf x (c .before .before .args .b)) (c .enum-told .given .1))))
+    (λ c. sym (ap (λ x. stateAfter x (c .before .before .args .b)) (c .enum-told .given .1))))
