@@ -10,6 +10,7 @@ use lib.Dec.{ltb}
 use lib.ListN.{length}
 use borrow.Author.Tests.{le-ltb}
 use Rattle.meaning.specs.Says.{Says}
+use Rattle.meaning.specs.Limits.{mostStem, mostLoop, witnessRoom}
 use Rattle.meaning.specs.Formula.{Formula}
 use Rattle.meaning.specs.Run.{Lasso, stateAt}
 use Rattle.meaning.specs.Run as run
@@ -58,8 +59,8 @@ pub record GoesOn (T : run.Plant) (f : Formula) (h : History) (b : Bool) (before
   pub lasso : Lasso
   pub lengths : r ≡ Answers.Run (record { stem = length (lasso .stem); turn = length (lasso .loop) })
   pub written : bytes ≡ over (lasso .stem ++ lasso .loop) before
-  pub short-stem : length (lasso .stem) ≤ 4095
-  pub short-loop : length (lasso .loop) ≤ 45056
+  pub short-stem : length (lasso .stem) ≤ mostStem
+  pub short-loop : length (lasso .loop) ≤ mostLoop
   pub walk : List ℕ
   pub long : length walk ≡ now h
   pub chosen : Chosen T f b h (walkThen walk lasso)
@@ -135,14 +136,14 @@ module _ (p : Plant) (fair label next : List ℕ) (rule : Rule) (given : Input p
       held-live = subst (λ (x : model.Monitor). Says (hasLive T f (model.side x b)) (Possible T f h b)) (sym is-seen) (seen-live b)
 
       -- a buffer of 01's room
-      module _ (room : ℕ) (enough : 49152 ≤ room) where
+      module _ (room : ℕ) (enough : witnessRoom ≤ room) where
         -- no check but 13 is left
         asked : askedOf p fair label next rule m room ≡ Accepted
         unfolding askedOf
         asked =
-            chain-accepts _ (unless (not (ltb room 49152)) Room) .1 (
+            chain-accepts _ (unless (not (ltb room witnessRoom)) Room) .1 (
               look-accepted p fair label next rule (watching.full p fair label next rule given) m .1 (given, fits),
-              unless-accepts (not (ltb room 49152)) Room .1 (ap not (le-ltb room 49152 enough)),
+              unless-accepts (not (ltb room witnessRoom)) Room .1 (ap not (le-ltb room witnessRoom enough)),
             )
 
         -- the call is accepted exactly if there is a run of the asked kind
@@ -165,7 +166,7 @@ module _ (p : Plant) (fair label next : List ℕ) (rule : Rule) (given : Input p
         )
 
       -- so by its contract, of any buffer of that room: what it answers and what the buffer then holds
-      module _ (before bytes : List ℕ) (enough : 49152 ≤ length before) (r : Witnessed) (answered : Answered p fair label next rule m b before bytes r) where
+      module _ (before bytes : List ℕ) (enough : witnessRoom ≤ length before) (r : Witnessed) (answered : Answered p fair label next rule m b before bytes r) where
         abbrev As : Outcome → Type 0
         As o = AnsweredAs T f (model.side (modelOf m) b) o before bytes r
 

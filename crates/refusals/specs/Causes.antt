@@ -9,7 +9,7 @@ use lib.ListN.{length}
 use Rattle.meaning.specs.Formula.{Formula, parts}
 use Rattle.meaning.specs.Run as run
 use Rattle.meaning.specs.Pair.{Live}
-use Rattle.meaning.specs.Limits.{Legal}
+use Rattle.meaning.specs.Limits.{witnessRoom, Legal}
 use Rattle.pairs.specs.declared.Pairs.{Pairs}
 use Rattle.pairs.specs.Sets.{inside}
 use Rattle.model.specs.Monitor.{side}
@@ -109,7 +109,7 @@ module _ (p : Plant) (fair label next : List ℕ) (rule : Rule) where
   causes (opening live) = ofTable p fair label next (row Value (NoRule ⊎ PairBeyond live) end)
   causes (look m) = ofTable p fair label next (row Value (NoRule ⊎ StateBeyond m) end)
   causes (step live m e) = ofTable p fair label next (row Value (NoRule ⊎ (PairBeyond live ⊎ StateBeyond m)) (row IllegalEvent (Illegal e) (row Number (OutOfTurn m e) end)))
-  causes (witness m keeps buffer) = ofTable p fair label next (row Value (NoRule ⊎ StateBeyond m) (row Room (length buffer < 49152) (row NoPair (NoLive m keeps) end)))
+  causes (witness m keeps buffer) = ofTable p fair label next (row Value (NoRule ⊎ StateBeyond m) (row Room (length buffer < witnessRoom) (row NoPair (NoLive m keeps) end)))
 
 -- ---- the printer
 

@@ -10,6 +10,7 @@ use lib.Dec.{leb, ltb}
 use lib.ListN.{length, getD}
 use borrow.Author.Tests.{eq-eqb, lt-ltb, leb-true, leb-false, not-true}
 use Rattle.meaning.specs.Formula.{Formula, parts}
+use Rattle.meaning.specs.Limits.{witnessRoom}
 use Rattle.meaning.specs.Run as run
 use Rattle.meaning.specs.Says.{Says}
 use Rattle.words.specs.Below.{anyBelow}
@@ -312,7 +313,7 @@ module _ (p : Plant) (fair label next : List ℕ) (rule : Rule) where
         (λ i. judged-row IllegalEvent _ (finds-not (legal-says T (seenOf e))) (λ so. ended (judged-row Number _ (finds-turn m e) (λ so. judged-end))))
     judged (witness m keeps buffer) z =
         subst (Judged _) (sym (in-turn (checkedOf p fair label next rule (stateFits m)) _ _))
-        (judged-value (finds-state m z) (λ i. judged-row Room _ (finds-so (lt-says (length buffer) 49152)) (λ so. ended (judged-row NoPair _ (finds-live i m keeps) (λ so. judged-end)))))
+        (judged-value (finds-state m z) (λ i. judged-row Room _ (finds-so (lt-says (length buffer) witnessRoom)) (λ so. ended (judged-row NoPair _ (finds-live i m keeps) (λ so. judged-end)))))
 
     -- ---- what is promised
 
