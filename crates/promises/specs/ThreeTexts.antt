@@ -16,6 +16,7 @@ use Rattle.model.specs.Log as model-log
 use Rattle.answers.specs.declared.Outcome.{Outcome}
 use Rattle.answers.specs.declared.Outcome.the-variants.{Accepted, Refused}
 use Rattle.answers.specs.Paper.{Paper, verdict, refusal, paper}
+use Rattle.answers.specs.Chain.{isAccepted}
 use Rattle.plant.specs.declared.Plant.{Plant}
 use Rattle.plant.specs.declared.Table.{Table}
 use Rattle.plant.specs.Table.{plantOf}
@@ -72,10 +73,6 @@ module _ (table rule log : List ℕ) where
   shownFor = behind (tableRead table .outcome) (behind (ruled .outcome) (behind (logged .outcome) (paper (after (t .plant) fair label next (ruled .rule) events .answer))))
 
 -- ---- what the texts say
-
-abbrev isAccepted : Outcome → Bool
-isAccepted Accepted = true
-isAccepted (Refused r) = false
 
 -- each event is accepted: it is legal, and its number in turn
 abbrev takesAll : ℕ → Bool → ℕ → List Event → Bool
