@@ -34,7 +34,7 @@ WORDS = [
     ('start: quiet', 'start: quiet, quiet', (12, 15), 'in this list already'),
     ('start: quiet', 'start: quiet alarm', (12, 8), 'No state is called `quiet alarm`'),
     ('start: quiet', 'start:', (12, 7), 'the name of a state'),
-    ('start: quiet', 'start: quiet,', (13, 1), 'the name of a state'),
+    ('start: quiet', 'start: quiet,', (12, 14), 'A comma at the end of a line'),
     ('start: quiet\n', '', (14, 1), 'a line `start:`'),
     ('start: quiet', 'start: quiet\nstart: shut', (13, 1), 'no second `start:`'),
     ('signals: alarm, closed\n', '', (14, 1), 'a line `signals:`'),
@@ -52,7 +52,7 @@ WORDS = [
     ('all but alarm', 'all but alram', (13, 43), 'Is `alarm` meant?'),
     ('the alarm ends = all', 'the (alarm) ends = all', (13, 22), '`=`, and then the states'),
     ('again and again: the alarm ends = all but alarm', '\n'.join(['again and again: quiet'] * 5), (17, 1), 'no more than 4 lines'),
-    ('always (if alarm then sometime closed)', 'always (if alarm then sometime closed', (15, 1), 'or a `)`'),
+    ('always (if alarm then sometime closed)', 'always (if alarm then sometime closed', (14, 44), 'or a `)`'),
     ('always (if alarm then sometime closed)', 'always (if alarm sometime closed)', (14, 24), 'or `then`'),
     ('always (if alarm then sometime closed)', 'never alarm', (14, 7), '`always not`'),
     ('always (if alarm then sometime closed)', 'Always alarm', (14, 7), 'written small'),
@@ -64,6 +64,24 @@ WORDS = [
     ('always (if alarm then sometime closed)', ' '.join(['not'] * 32) + ' alarm', (14, 7), 'at most 32'),
     ('always (if alarm then sometime closed)', ' '.join(['next'] * 7) + ' alarm', (14, 7), 'at most 6'),
     ('rule: ', 'rules: ', (14, 1), 'Is `rule:` meant?'),
+    ('again and again: the', 'fairness: the', (13, 1), 'Is `again and again:` meant?'),
+    ('the alarm ends = all', 'the alarm ends: all', (13, 32), '`=` behind the name'),
+    ('quiet, alarm\n', 'quiet, alarm,\n', (5, 26), 'A comma at the end of a line'),
+    ('quiet, alarm\n', 'quiet,\n    alram\n', (6, 5), 'Is `alarm` meant? A comma at the end'),
+    ('quiet, alarm\n', 'quiet\n    alarm\n', (6, 5), 'a list goes on behind a comma'),
+    ('start: quiet', 'start: quiet and shut', (12, 8), 'Is a comma missing between `quiet` and `shut`?'),
+    ('signals: alarm, closed', 'signals: alarm bell closed', (7, 7), 'There is `alarm bell closed`: is a comma missing there?'),
+    ('  on: closed', '  on: shut', (10, 7), 'There is a state of that name'),
+    ('  on: nothing', '  on: Nothing', (4, 7), '`nothing` is written small'),
+    ('start: quiet', 'start: “quiet”', (12, 8), 'quotes of a word processor'),
+    ('start: quiet', 'start: qui\u200bet', (12, 11), 'no picture (U+200B)'),
+    ('always (if alarm then sometime closed)', 'always (alarm => closed)', (14, 22), '`a -> b`'),
+    ('always (if alarm then sometime closed)', 'always [alarm]', (14, 14), 'Parentheses are round'),
+    ('always (if alarm then sometime closed)', 'alarm && closed', (14, 14), 'one `&`'),
+    ('always (if alarm then sometime closed)', 'always quiet', (14, 14), '`quiet` is a state, and a rule speaks of signals'),
+    ('always (if alarm then sometime closed)', 'not alarm closed', (14, 11), 'Is a word missing between `alarm` and `closed`'),
+    ('always (if alarm then sometime closed)', '(' * 600 + 'alarm' + ')' * 600, (14, 507), 'too long'),
+    ('start: quiet', ''.join('state: n%d\n  on: nothing\n  leads to: quiet\n' % k for k in range(62)) + 'start: quiet', (195, 8), 'no more than 64 states'),
 ]
 SEEN = [
     ('closed', (1, 1), '`on`, `off`, `all`'),
@@ -81,6 +99,21 @@ SEEN = [
     ('nothing\nevent 4; nothing', (2, 1), 'no number'),
     ('event 4; nothing\nevent 4; nothing', (2, 7), 'a number from 5 to 21'),
     ('event 4; nothing\nevent 22; nothing', (2, 7), 'at most 16'),
+    ('event 4294967295; nothing\nevent 0; nothing', (2, 7), 'was the last number'),
+    ('event ' + '9' * 5000 + '; nothing', (1, 7), 'the number of the event'),
+    ('on: alarm', (1, 3), 'no colon'),
+    ('alarm on', (1, 1), '`on alarm`, or `off alarm`'),
+    ('All; on alarm', (1, 1), 'written small: `all`'),
+    ('on alarm, off closed', (1, 11), 'Before `off` stands a `;`'),
+    ('on alarm and closed', (1, 4), 'Is a comma missing'),
+    ('on alarm; restart', (1, 11), 'The order is'),
+    ('on shut', (1, 4), 'There is a state of that name'),
+    ('on alarm,\nnothing', (2, 1), 'A comma at the end'),
+    ('on alarm,', (1, 10), 'A comma at the end'),
+    ('7; nothing', (1, 1), '`event 7; ..`'),
+    ('see=01 val=01 new=0', (1, 1), 'a line of log.txt'),
+    ('nothing\n' * 3276 + 'on alarm', (3277, 1), 'at most 3,276 events'),
+    ('\n'.join('event %d; nothing' % k for k in range(1986)), (1986, 1), 'at most 1,985 events'),
 ]
 
 
@@ -200,6 +233,36 @@ def try_tool(room):
         fail('words that can\'t be read are written')
 
 
+def try_places(room):
+    """Folders and files that are not as a tool would have them, and terminals that can't show all signs."""
+    odd = os.path.join(room, 'odd')
+    asked(1, 'has a plant already (log.txt)', made(odd, {'log.txt': b''}), '--new')
+    asked(1, 'can\'t be made', os.path.join(odd, 'log.txt'), '--new')
+    asked(1, 'To begin one: tools/plant', odd)
+    os.remove(os.path.join(odd, 'log.txt'))
+    made(odd, {'words.txt': GOOD.replace('quiet', 'stehtün').encode('utf-8')})
+    asked(0, 'steht?n', odd, env=dict(os.environ, PYTHONIOENCODING='ascii'))
+    os.remove(os.path.join(odd, 'plant.txt'))
+    os.mkdir(os.path.join(odd, 'plant.txt'))
+    asked(1, 'plant.txt can\'t be written: is a directory', odd)
+    full = made(os.path.join(room, 'full'), {'words.txt': GOOD.encode('utf-8')})
+    os.symlink('/dev/full', os.path.join(full, 'rule.txt'))
+    asked(1, 'rule.txt can\'t be written: no space left', full)
+    strange = made(os.path.join(room, 'n\udcfcr'), {'words.txt': GOOD.encode('utf-8')})
+    asked(0, 'Read back', strange, env=dict(os.environ, PYTHONIOENCODING='utf-8'))
+    for words_ in (GOOD.replace('\n', '\r'), GOOD.replace('  ', '\t'), GOOD.replace('state: shut', 'state: sch\u00fctz').replace('shut', 'schu\u0308tz')):
+        asked(0, 'Read back', made(os.path.join(room, 'ends'), {'words.txt': words_.encode('utf-8')}))
+    asked(1, 'seen.txt, line 1, column 7', made(os.path.join(room, 'ends'), {'seen.txt': b'event ' + b'9' * 5000}))
+    asked(1, 'rule.txt, line 1, column 513', made(os.path.join(room, 'deep'), {'plant.txt': texts.write_table(words.read_words(GOOD).table).encode(), 'rule.txt': b'(' * 9000}), '--back')
+
+
+def made(folder, files):
+    os.makedirs(folder, exist_ok=True)
+    for name, data in files.items():
+        write(folder, name, data)
+    return folder
+
+
 def try_programs(room, seed):
     """What is written is taken by the proved reader: no refusal of plant, rule or log."""
     if not program.is_built('watch'):
@@ -251,6 +314,7 @@ def main():
         asked(0, 'log.txt are what the words give', os.path.join(HOME, 'examples', folder), '--check')
     with tempfile.TemporaryDirectory() as room:
         try_tool(room)
+        try_places(room)
         try_guide(room)
         try_programs(room, seed)
     print('plant: 121 plants, rules and logs go into texts and come back, %d bad words are refused at their places, the texts of %d worked plants are those of their words' % (len(WORDS) + len(SEEN), len(folders)))

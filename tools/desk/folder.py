@@ -8,6 +8,8 @@ from desk.trouble import Bad, Trouble, counted, told
 def read_text(folder, name, reading):
     """What a text in names says; trouble with a caret where it can't be read."""
     path = os.path.join(folder, name)
+    if not os.path.lexists(path):
+        raise Trouble('there is no %s. To begin one: tools/plant %s --new. To have the words of a plant.txt that is there: tools/plant %s --back' % (path, folder, folder))
     text = texts.decoded(texts.contents(path), path)
     try:
         return reading(text)
@@ -23,9 +25,6 @@ def files_of(folder):
     if os.path.exists(os.path.join(folder, 'seen.txt')):
         events = read_text(folder, 'seen.txt', lambda text: words.read_seen(text, plant.names))
         files['log.txt'] = texts.write_log(events, plant.table.props)
-        if len(files['log.txt']) > texts.SIZES['log.txt']:
-            raise Trouble('%s has %s, and log.txt would have more than the 65,520 bytes that the program takes' % (
-                os.path.join(folder, 'seen.txt'), counted(len(events), 'event')))
     return files, plant, events
 
 

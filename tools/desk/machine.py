@@ -42,15 +42,21 @@ def read_machine(output, props, source):
     array = re.search(r'\]\s*=\s*\{(.*?)\}\s*;', code, re.S)
     if not array:
         raise Trouble('%s is no output of the program `machine`: it has no array of bytes' % source)
-    numbers = [int(digits, 16 if digits[:2].lower() == '0x' else 10) for digits in re.findall(r'\b(?:0[xX][0-9a-fA-F]+|\d+)', array.group(1))]
-    if max(numbers, default=0) > 255:
-        raise Trouble('%s is no output of the program `machine`: its array has %d, which is no byte' % (source, max(numbers)))
-    return Machine(props, bytes(numbers), source)
+    found = re.findall(r'\b(?:0[xX][0-9a-fA-F]+|\d+)', array.group(1))
+    large = [digits for digits in found if number_of(digits) > 255]
+    if large:
+        raise Trouble('%s is no output of the program `machine`: its array has %s, which is no byte' % (source, large[0][:20]))
+    return Machine(props, bytes(number_of(digits) for digits in found), source)
+
+
+def number_of(digits):
+    """The number that C reads there; of many digits one that is no byte."""
+    return int(digits, 16 if digits[:2].lower() == '0x' else 10) if len(digits) <= 4 else 256
 
 
 def refused(output):
     """The number and the place of a refusal, where the program wrote one."""
-    line = re.search(r'(?m)^refused=(\d+) place=(\d+)$', output)
+    line = re.search(r'(?m)^refused=(\d{1,3}) place=(\d{1,10})$', output)
     return (int(line.group(1)), int(line.group(2))) if line else None
 
 

@@ -2,6 +2,7 @@
 import collections
 import os
 import re
+import shlex
 import subprocess
 
 from desk.trouble import Trouble
@@ -22,10 +23,16 @@ def is_built(program):
     return os.path.exists(path_of(program))
 
 
+def building(program):
+    """What to type to have a program. The kit builds the project in which it is started."""
+    here = os.path.realpath(os.curdir) == os.path.realpath(HOME)
+    return 'rt check %s' % program if here else 'cd %s && rt check %s' % (shlex.quote(HOME), program)
+
+
 def run(program, folder):
     """What a program writes on a folder."""
     if not is_built(program):
-        raise Trouble('the program %s is not there. This proves and builds it:\n    rt check %s' % (os.path.relpath(path_of(program)), program))
+        raise Trouble('the program target/bin/%s is not there. This proves and builds it; the first time it takes some minutes:\n    %s' % (program, building(program)))
     done = subprocess.run([os.path.join(HOME, 'tests', 'launch'), path_of(program), os.path.abspath(folder)], stdout=subprocess.PIPE, stderr=subprocess.PIPE, check=False)
     if done.returncode or done.stderr:
         raise Trouble('the program %s could not be run here: %s' % (program, done.stderr.decode('utf-8', 'replace').strip() or 'status %d' % done.returncode))
@@ -36,8 +43,8 @@ def read_lamps(output, source):
     """The lamps of an output of `watch`."""
     start, lamps, refused = None, [], None
     for line in output.splitlines():
-        lamp = re.fullmatch(r'(?:start|n=(\d+)) verdict=(%s) left=(\d+)' % '|'.join(VERDICTS), line)
-        refusal = re.fullmatch(r'refused=(\d+) place=(\d+)', line)
+        lamp = re.fullmatch(r'(?:start|n=(\d{1,10})) verdict=(%s) left=(\d{1,3})' % '|'.join(VERDICTS), line)
+        refusal = re.fullmatch(r'refused=(\d{1,3}) place=(\d{1,10})', line)
         if refused or not (lamp or refusal) or lamp and line.startswith('start') != (start is None):
             raise Trouble('%s is no output of the program `watch`: its line `%s` does not fit' % (source, line[:60]))
         if refusal:

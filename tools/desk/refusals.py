@@ -3,7 +3,7 @@ import collections
 import os
 
 from desk import rules, texts
-from desk.trouble import Bad, counted, pointed, spot
+from desk.trouble import Bad, counted, pointed, reason, spot
 
 Kind = collections.namedtuple('Kind', 'title meaning todo')
 
@@ -112,7 +112,7 @@ def not_read(path, most):
         with open(path, 'rb') as file:
             size = len(file.read(most + 1))
     except OSError as wrong:
-        return 'can\'t be read (%s)' % (wrong.strerror or str(wrong)).lower()
+        return 'can\'t be read (%s)' % reason(wrong)
     return 'has more than the %s bytes that the program takes' % '{:,}'.format(most) if size > most else ''
 
 
@@ -168,7 +168,7 @@ def illegal(folder, text, number, place):
 
 def out_of_turn(folder, text, number, place):
     events = texts.read_log(text, props_of(folder))
-    k = place // texts.line_bytes(text, props_of(folder))
+    k = place // texts.line_bytes(text.startswith('n'), props_of(folder))
     here, before = events[k].number, events[k - 1].number
     if here is None:
         return place, ['Number 4,294,967,295 was the last one.']

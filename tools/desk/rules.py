@@ -2,9 +2,12 @@
 
 A tree is ('p', k) for signal k, ('0',), ('1',), (operator, a) or (operator, a, b).
 """
-import difflib
+import sys
 
+from desk.near import parted, unknown
 from desk.trouble import Bad, listed
+
+sys.setrecursionlimit(max(5000, sys.getrecursionlimit()))         # 512 parentheses in each other are a rule
 
 PREFIX = {'!': 'not', 'X': 'next', 'F': 'sometime', 'G': 'always'}
 UNTIL = {'U': 'until', 'R': 'releases'}
@@ -12,6 +15,7 @@ WORDS = dict(PREFIX, **UNTIL, **{'&': 'and', '|': 'or', '0': 'false', '1': 'true
 MEANT = {word: sign for sign, word in WORDS.items()}
 TEMPORAL = 'XFGUR'
 SIZE, PARTS, BYTES = 32, 6, 512
+TOKENS = 500         # a rule in words of so many words and signs has more than it may have, or is all parentheses
 RESERVED = set(MEANT) | {'if', 'then'} | set('XFGUR01')
 # What people write, and which of the words says it.
 INSTEAD = {
@@ -117,6 +121,8 @@ class Grammar:
 
 
 def read_rule(text):
+    if len(text) > BYTES:
+        raise Bad(BYTES, 'the end of the rule: it has at most %d bytes' % BYTES)
     return Grammar(text).whole()
 
 
@@ -157,8 +163,10 @@ class Spoken:
     """Reads a rule in words, or in the grammar with names, from tokens (desk.words). A row of words that are none of the operators' is one name."""
     OPERAND = 'a signal\'s name, `(`, `not`, `next`, `sometime`, `always` or `if`'
 
-    def __init__(self, tokens, signals):
-        self.tokens, self.at, self.signals, self.open = tokens, 0, signals, 0
+    def __init__(self, tokens, signals, states=()):
+        self.tokens, self.at, self.signals, self.states, self.open = tokens, 0, signals, states, 0
+        if len(tokens) > TOKENS:
+            raise Bad(tokens[TOKENS].begin, 'the end of the rule', 'It is too long: it has at most %d operators and names.' % SIZE)
 
     def here(self):
         """The operator that stands here, by its sign; else the text of a sign that is none; None for a part of a name."""
@@ -215,7 +223,7 @@ class Spoken:
             return tree
         if self.here() is None:
             return self.name()
-        raise self.bad(self.OPERAND)
+        raise self.bad(self.OPERAND, '"And" is one `&`, "or" is one `|`.' if self.here() in ('&', '|') else '')
 
     def name(self):
         first = self.at
@@ -224,13 +232,13 @@ class Spoken:
         while self.tokens[first].kind == 'word' and self.tokens[self.at].kind == 'word' and self.here() is None:
             words.append(self.tokens[self.at].text)
             self.at += 1
-        name = ' '.join(words)
+        name = ' '.join(' '.join(words).split())
         if name not in self.signals:
-            raise Bad(self.tokens[first].begin, 'the name of a signal', unknown(name, self.signals))
+            raise Bad(self.tokens[first].begin, 'the name of a signal', no_signal(name, self.signals, self.states))
         return ('p', self.signals.index(name))
 
 
-def unknown(name, signals):
+def no_signal(name, signals, states):
     """What may have been meant by a name that no signal has."""
     for word in name.split():
         if word.lower() in INSTEAD:
@@ -242,8 +250,11 @@ def unknown(name, signals):
     known = [s for s in signals if set(s.split()) & RESERVED and s.startswith(name)]
     if known:
         return 'A name with a word of the rules in it stands in quotes here: "%s".' % known[0]
-    near = difflib.get_close_matches(name, signals, 1, 0.5)
-    return 'No signal is called `%s`. %s' % (name, 'Is `%s` meant?' % near[0] if near else 'There are: %s.' % listed('`%s`' % s for s in signals))
+    if len(parted(name, signals)) > 1:
+        return 'No signal is called `%s`. Is a word missing between %s: `and`, `or`, `until`?' % (name, listed('`%s`' % s for s in parted(name, signals)))
+    if name in states:
+        return '`%s` is a state, and a rule speaks of signals. Let a signal be on in that state, and name the signal.' % name
+    return unknown(name, signals, 'signal')
 
 
 # ---- what a rule says of a run ----

@@ -1,8 +1,9 @@
 """The files of a folder: tables, logs and names, read and written. docs/REFERENCE.md has their forms exactly."""
 import collections
 import os
+import unicodedata
 
-from desk.trouble import Bad, Trouble, told
+from desk.trouble import Bad, Trouble, reason, told
 
 SIGNALS, STATES, FAIR = 16, 64, 4                                       # the most of each that a table has
 SIZES = {'plant.txt': 2477, 'rule.txt': 513, 'log.txt': 65520}          # the most bytes that the programs take
@@ -35,6 +36,12 @@ def weight(members_):
 def width(props):
     """The digits of a set of signals."""
     return 2 if props <= 8 else 4
+
+
+def number_in(digits, most):
+    """The number that decimal digits say, or None: what is no such number, or is above the most. A row of digits may be as long as a file."""
+    plain = digits.lstrip('0') or '0'
+    return int(plain) if digits.isascii() and digits.isdigit() and len(plain) <= len(str(most)) and int(plain) <= most else None
 
 
 # ---- reading by slots: the first byte that can't be right, and what was expected there ----
@@ -124,8 +131,13 @@ def write_table(table):
 
 # ---- logs ----
 
-def line_bytes(text, props):
-    return 16 + 2 * width(props) + (13 if text.startswith('n') else 0)
+def line_bytes(numbered, props):
+    return 16 + 2 * width(props) + (13 if numbered else 0)
+
+
+def most_events(props, numbered):
+    """How many events fit into a log that the programs take."""
+    return SIZES['log.txt'] // line_bytes(numbered, props)
 
 
 def read_log(text, props):
@@ -191,8 +203,11 @@ class Names:
 def distinct(given, mark, count):
     names = []
     for k in range(count):
-        name = given.get('%s%d' % (mark, k)) or '%s%d' % (mark, k)
-        names.append(name if name not in names else '%s (%s%d)' % (name, mark, k))
+        own = '%s%d' % (mark, k)
+        name = given.get(own) or own
+        while name in names:
+            name += ' (%s)' % own
+        names.append(name)
     return names
 
 
@@ -208,9 +223,10 @@ def read_names(data, where='names.txt'):
 
 
 def decoded(data, where):
-    """A text that people write: UTF-8, with or without a mark at its beginning."""
+    """A text that people write: UTF-8, with or without a mark at its beginning, with line ends of any system. A letter and its accent are one character, whichever
+    way the editor keeps them."""
     try:
-        return data.decode('utf-8-sig')
+        return unicodedata.normalize('NFC', data.decode('utf-8-sig').replace('\r\n', '\n').replace('\r', '\n'))
     except UnicodeDecodeError as wrong:
         text = data.decode('latin-1')
         raise told(where, text, Bad(wrong.start, 'a letter in UTF-8', 'The file was saved in another encoding. Save it anew as UTF-8.')) from None
@@ -229,7 +245,7 @@ def contents(path):
         with open(path, 'rb') as file:
             return file.read()
     except OSError as wrong:
-        raise Trouble('%s can\'t be read: %s' % (path, (wrong.strerror or str(wrong)).lower())) from None
+        raise Trouble('%s can\'t be read: %s' % (path, reason(wrong))) from None
 
 
 def text_of(folder, name):
@@ -261,6 +277,11 @@ def log_of(folder, table):
         return read_log(text, table.props)
     except Bad as bad:
         raise told(os.path.join(folder, 'log.txt'), text, bad) from None
+
+
+def called(folder):
+    """A folder's own name, for a page's title where there is no other; its bytes may be any."""
+    return os.fsencode(os.path.basename(os.path.abspath(folder))).decode('utf-8', 'replace')
 
 
 def asked_folder(path):

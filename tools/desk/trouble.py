@@ -1,5 +1,7 @@
 """What is said to a person where something is wrong: the file, the line, a caret under the place, what was expected, what to do."""
+import os
 import sys
+import unicodedata
 
 MARGIN = 36   # so many characters of a long line are shown on either side of the place
 
@@ -21,7 +23,17 @@ def visible(character):
     code = ord(character)
     if code < 32:
         return chr(0x2400 + code)
-    return '·' if 127 <= code < 160 or code == 0xFEFF else character
+    return '·' if is_unseen(character) else character
+
+
+def is_unseen(character):
+    """Whether a character has no picture: control and format characters, a mark of the byte order among them."""
+    return unicodedata.category(character) in ('Cc', 'Cf', 'Cs', 'Zl', 'Zp')
+
+
+def columns(text):
+    """How many columns a text takes on a screen: letters of the far east take two, accents that stand by themselves none."""
+    return sum(0 if unicodedata.combining(c) else 2 if unicodedata.east_asian_width(c) in 'WF' else 1 for c in text)
 
 
 def spot(text, place):
@@ -39,7 +51,7 @@ def pointed(text, place):
     end = begin + 2 * MARGIN if len(line) > 2 * MARGIN else len(line)
     before, after = '.. ' if begin else '', ' ..' if end < len(line) else ''
     shown = ''.join(visible(c) for c in line[begin:end])
-    return '    %s%s%s\n    %s^' % (before, shown, after, ' ' * (len(before) + at - begin))
+    return '    %s%s%s\n    %s^' % (before, shown, after, ' ' * (len(before) + columns(shown[:at - begin])))
 
 
 def told(name, text, bad):
@@ -59,15 +71,39 @@ def counted(number, one, many=None):
     return '%s %s' % ('{:,}'.format(number), one if number == 1 else many or one + 's')
 
 
+def reason(wrong):
+    """What the system says of a file that it does not open, read or write."""
+    return (wrong.strerror or str(wrong)).lower()
+
+
+def put(path, text):
+    """Writes a text as it stands."""
+    try:
+        with open(path, 'w', encoding='utf-8', newline='') as file:
+            file.write(text)
+    except OSError as wrong:
+        raise Trouble('%s can\'t be written: %s' % (path, reason(wrong))) from None
+
+
 def started(tool, main, usage):
-    """Runs the main function of a tool: help where it is asked for, trouble as words, and an exit status other than 0 for it."""
-    if any(word in ('--help', '-h', 'help') for word in sys.argv[1:2]):
+    """Runs the main function of a tool: help where it is asked for, trouble as words, and an exit status other than 0 for it. What a terminal has no sign for
+    is a question mark there, and no trouble."""
+    for stream in (sys.stdout, sys.stderr):
+        if stream:
+            stream.reconfigure(errors='replace')
+    if sys.argv[1:2] and sys.argv[1] in ('--help', '-h', 'help'):
         print(usage.strip())
         sys.exit(0)
     try:
-        sys.exit(main(sys.argv[1:]))
+        ended = main(sys.argv[1:])
+        print(end='', flush=True)
+        sys.exit(ended)
     except Trouble as trouble:
         sys.exit('%s: %s' % (tool, trouble))
     except BrokenPipeError:
-        sys.stderr.close()
+        os.dup2(os.open(os.devnull, os.O_WRONLY), sys.stdout.fileno())    # nobody reads on, and nothing more is said
         sys.exit(1)
+    except KeyboardInterrupt:
+        sys.exit(130)
+    except OSError as wrong:
+        sys.exit('%s: %s%s' % (tool, '%s: ' % wrong.filename if wrong.filename else '', reason(wrong)))

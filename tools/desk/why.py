@@ -5,7 +5,7 @@ import tempfile
 
 from desk import graph, program, rules, texts
 from desk.lamps import COLOURS, MEANS, changes
-from desk.trouble import counted, listed
+from desk.trouble import counted, listed, put
 from desk.words import told_event
 
 KIND = {True: 'keeps', False: 'breaks'}
@@ -31,8 +31,7 @@ class Story:
         with tempfile.TemporaryDirectory() as room:
             for name in ('plant.txt', 'rule.txt'):
                 copy(os.path.join(self.folder, name), os.path.join(room, name))
-            with open(os.path.join(room, 'log.txt'), 'w', encoding='ascii', newline='') as file:
-                file.write(texts.write_log(self.events[:count], self.table.props))
+            put(os.path.join(room, 'log.txt'), texts.write_log(self.events[:count], self.table.props))
             return action(room)
 
     def state_names(self, states):

@@ -4,35 +4,56 @@ Lines `key: value`; `#` begins a remark. A list goes on in the next line behind 
 """
 import collections
 import difflib
+import itertools
 import re
 
 from desk import rules
-from desk.texts import FAIR, MISSING, NUMBERS, SIGNALS, STATES, Event, Names, Table, members, weight
-from desk.trouble import Bad, listed
+from desk.near import unknown
+from desk.texts import FAIR, MISSING, NUMBERS, SIGNALS, STATES, Event, Names, Table, members, most_events, number_in, weight
+from desk.trouble import Bad, is_unseen, listed
 
 KEYS = ['title', 'signals', 'state', 'on', 'leads to', 'start', 'again and again', 'rule']
+MEANT_KEYS = {
+    'again': 'again and again', 'fairness': 'again and again', 'fair': 'again and again', 'just': 'again and again', 'name': 'title', 'next': 'leads to', 'to': 'leads to', 'goes to': 'leads to',
+    'followed by': 'leads to', 'label': 'on', 'initial': 'start', 'begin': 'start', 'begins': 'start', 'props': 'signals', 'propositions': 'signals', 'sensors': 'signals', 'situation': 'state',
+}
 NONE = ('nothing', 'none', 'nowhere')
 LONE = set(NONE) | {'all', 'restart', 'but'}         # words that are no names where they stand alone
 WIDE = 100                                           # lists are broken behind so many characters
 
-Token = collections.namedtuple('Token', 'kind text begin')        # kind: word, quoted, sign, end
+Token = collections.namedtuple('Token', 'kind text begin later', defaults=(False,))     # kind: word, quoted, sign, end; later: begins a further line of a value
 WORD = r"(?:\w|[.'’/%°+]|-(?!>))+"
+KEY_LINE = re.compile(r'[^":#\n]*:')                # a colon is no part of a list or a rule, so such a line begins anew
 TOKEN = re.compile(r'(?P<blank>\s+|#[^\n]*)|"(?P<quoted>(?:[^"\n]|"")*)"|(?P<sign>->|[(),;:=!&|])|(?P<word>%s)' % WORD)
 
 
+# Signs that no text in names has, and what to write.
+ODD = {
+    '"': 'The quotes are not closed in this line.', '“”„‟«»': 'These are quotes of a word processor. Write plain ones: ".', '[]{}': 'Parentheses are round: ( and ).',
+    '>→⇒': 'Write `if a then b`, or `a -> b`.', '~^¬': '"Not" is written `not`, or `!`.', '∧∨': 'Write `and` and `or`.',
+}
+COMMA = 'A comma at the end of a line says that the list goes on in the next line.'
+
+
+def odd(character):
+    """A hint on a character that begins no word and is no sign."""
+    if is_unseen(character):
+        return 'A character stands here that has no picture (U+%04X). Delete it.' % ord(character)
+    return next((hint for signs, hint in ODD.items() if character in signs), 'A name with signs in it stands in quotes: "valve sticks (hidden)".')
+
+
 def tokens(text, begin, end):
-    """The words, quoted names and signs of a part of a text, and an end."""
-    found, at = [], begin
+    """The words, quoted names and signs of a part of a text, and an end, right behind the last of them."""
+    found, at, last = [], begin, begin
     while at < end:
         match = TOKEN.match(text, at, end)
         if not match:
-            hint = 'The quotes are not closed in this line.' if text[at] == '"' else 'A name with signs in it stands in quotes: "valve sticks (hidden)".'
-            raise Bad(at, 'a name, or one of `,` `;` `(` `)`', hint)
-        kind = match.lastgroup
+            raise Bad(at, 'a name, or one of `,` `;` `(` `)`', odd(text[at]))
+        kind, at = match.lastgroup, match.end()
         if kind != 'blank':
-            found.append(Token(kind, match.group(kind).replace('""', '"'), at))
-        at = match.end()
-    return found + [Token('end', '', end)]
+            found.append(Token(kind, match.group(kind).replace('""', '"'), match.start()))
+            last = at
+    return found + [Token('end', '', last)]
 
 
 def is_plain(name):
@@ -74,7 +95,7 @@ class Listed:
         """A quoted name, or the words up to the next sign; and where it begins."""
         token = self.here()
         if token.kind not in ('word', 'quoted'):
-            raise Bad(token.begin, what)
+            raise Bad(token.begin, what, COMMA if token.kind == 'end' and self.at and self.tokens[self.at - 1].text == ',' else '')
         words = []
         while self.here().kind == 'word' and token.kind == 'word' or not words:
             words.append(self.here().text)
@@ -101,8 +122,8 @@ class Listed:
         if self.here().kind != 'end':
             raise Bad(self.here().begin, '`,` and a further name, %sor the end of the line' % also)
 
-    def set(self, known, kind, also=''):
-        """The numbers of a list of known names; `nothing`, `all` and `all but ..` are lists too."""
+    def set(self, known, kind, elsewhere=None):
+        """The numbers of a list of known names; `nothing`, `all` and `all but ..` are lists too. `elsewhere`: names of another kind, which may have been meant."""
         if self.is_none():
             return set()
         whole = self.here().kind == 'word' and self.here().text == 'all' and (self.tokens[self.at + 1].kind != 'word' or self.tokens[self.at + 1].text == 'but')
@@ -113,16 +134,18 @@ class Listed:
         found = set()
         for name, begin in self.names('the name of a %s, or `nothing`' % kind):
             if name not in known:
-                raise Bad(begin, 'the name of a %s' % kind, unknown(name, known, kind))
+                raise Bad(begin, 'the name of a %s' % kind, self.no_name(name, begin, known, kind, elsewhere))
             if known.index(name) in found:
                 raise Bad(begin, 'the name of another %s' % kind, '`%s` stands in this list already.' % name)
             found.add(known.index(name))
         return set(range(len(known))) - found if whole else found
 
 
-def unknown(name, known, kind):
-    near = difflib.get_close_matches(name, known, 1, 0.5)
-    return 'No %s is called `%s`. %s' % (kind, name, 'Is `%s` meant?' % near[0] if near else 'There are: %s.' % listed('`%s`' % k for k in known))
+    def no_name(self, name, begin, known, kind, elsewhere):
+        """A hint on a name in a list that there is not."""
+        later = any(t.later for t in self.tokens if t.begin == begin)
+        alone = '`%s` is written small.' % name.lower() if name not in LONE else '`%s` is a list by itself.' % name
+        return (alone if name.lower() in LONE else unknown(name, known, kind, elsewhere)) + (' ' + COMMA if later else '')
 
 
 # ---- words.txt ----
@@ -154,22 +177,38 @@ def entry_at(text, at, end):
     key = ' '.join(text[begin:colon].split()) if colon >= 0 else ''
     key = 'signals' if key == 'signal' else key
     if key not in KEYS:
-        word = text[begin:colon if colon >= 0 else end].strip()
-        near = difflib.get_close_matches(word.split(' ')[0] if colon < 0 else word, KEYS, 1, 0.6)
-        raise Bad(begin, 'one of %s, and `:`' % listed(('`%s`' % k for k in KEYS), 'or'), 'Is `%s:` meant?' % near[0] if near else '')
+        raise Bad(begin, 'one of %s, and `:`' % listed(('`%s`' % k for k in KEYS), 'or'), no_key(text[begin:colon if colon >= 0 else end].strip(), colon >= 0))
     if key == 'title':
         return Entry(key, begin, ' '.join(text[colon + 1:end].split()), []), end
-    found = tokens(text, colon + 1, end)
-    while goes_on(found) and end < len(text):
-        end = line_end(text, end + 1)
-        found = tokens(text, colon + 1, end)
+    found, end = value_from(text, colon + 1, end, key == 'rule')
     return Entry(key, begin, text[colon + 1:end], found), end
 
 
-def goes_on(found):
-    """Whether a value goes on in the next line: behind a comma, or while a parenthesis is open."""
-    signs = [t.text for t in found if t.kind == 'sign']
-    return len(found) > 1 and found[-2][:2] == ('sign', ',') or signs.count('(') > signs.count(')')
+def no_key(word, colon):
+    """A hint on a line that begins with none of the keys."""
+    asked = MEANT_KEYS.get(word.lower()) if colon else None
+    near = difflib.get_close_matches(word.lower() if colon else word.split(' ')[0], KEYS, 1, 0.6)
+    if asked or near:
+        return 'Is `%s:` meant?' % (asked or near[0])
+    return '' if colon else 'If this goes on with the line above: a list goes on behind a comma, a rule while a parenthesis is open.'
+
+
+def value_from(text, begin, end, spoken=False):
+    """The tokens of a value, and where it ends. It goes on in the next line behind a comma, and a rule while a parenthesis is open; not in a line with a key."""
+    found = tokens(text, begin, end)
+    deep = depth(found)
+    while end < len(text) and (len(found) > 1 and found[-2][:2] == ('sign', ',') or spoken and deep > 0) and not KEY_LINE.match(text, end + 1):
+        begin, end = end + 1, line_end(text, end + 1)
+        more = tokens(text, begin, end)
+        if len(more) > 1:
+            found[-1:] = [more[0]._replace(later=True)] + more[1:]
+            deep += depth(more)
+    return found, end
+
+
+def depth(found):
+    """How many parentheses are opened and not closed."""
+    return sum((t.text == '(') - (t.text == ')') for t in found if t.kind == 'sign')
 
 
 class Plant:
@@ -192,7 +231,7 @@ def read_words(text):
     label, next_ = read_states(found, signals, states)
     fair, fair_names = read_fair(by_key['again and again'], states)
     start = one_set(only(by_key, 'start', end, 'the states in which the plant may begin'), states, 'state')
-    tree = read_rule(only(by_key, 'rule', end, 'what should hold'), signals)
+    tree = read_rule(only(by_key, 'rule', end, 'what should hold'), signals, states)
     given = {'%s%d' % (mark, k): name for mark, names in (('p', signals), ('s', states), ('j', fair_names)) for k, name in enumerate(names)}
     title = by_key['title'][0].value if by_key['title'] else ''
     return Plant(Table(len(signals), start, fair, label, next_), tree, Names(len(signals), len(states), len(fair), given, title))
@@ -240,12 +279,12 @@ def read_states(found, signals, states):
         if entry.key == 'state':
             at += 1
         elif entry.key in ('on', 'leads to'):
-            row, known, kind = (label, signals, 'signal') if entry.key == 'on' else (next_, states, 'state')
+            row, known, kind, elsewhere = (label, signals, 'signal', ('state', states)) if entry.key == 'on' else (next_, states, 'state', ('signal', signals))
             if at < 0:
                 raise Bad(entry.begin, 'a line `state:` before this one', '`%s:` says something of the state above it.' % entry.key)
             if row[at] is not None:
                 raise Bad(entry.begin, 'no second `%s:` for this state' % entry.key)
-            row[at] = one_set(entry, known, kind)
+            row[at] = one_set(entry, known, kind, elsewhere)
     for s, entry in enumerate(e for e in found if e.key == 'state'):
         for row, key, none in ((label, 'on', 'nothing'), (next_, 'leads to', 'nowhere')):
             if row[s] is None:
@@ -253,9 +292,9 @@ def read_states(found, signals, states):
     return label, next_
 
 
-def one_set(entry, known, kind):
+def one_set(entry, known, kind, elsewhere=None):
     names = Listed(entry.tokens)
-    found = names.set(known, kind)
+    found = names.set(known, kind, elsewhere)
     names.done()
     return found
 
@@ -267,6 +306,9 @@ def read_fair(found, states):
         if j == FAIR:
             raise Bad(entry.begin, 'no more than %d lines `again and again:`' % FAIR, 'The box takes no more than that.')
         reader, name = Listed(entry.tokens), 'j%d' % j
+        colon = next((t.begin for t in entry.tokens if t[:2] == ('sign', ':')), None)
+        if colon is not None:
+            raise Bad(colon, '`=` behind the name of the set, or `,` between states')
         if any(t[:2] == ('sign', '=') for t in entry.tokens):
             name, begin = reader.name('what must happen again and again, or the names of states')
             if not reader.sign('='):
@@ -279,8 +321,8 @@ def read_fair(found, states):
     return sets, names
 
 
-def read_rule(entry, signals):
-    tree = rules.Spoken(entry.tokens, signals).whole()
+def read_rule(entry, signals, states):
+    tree = rules.Spoken(entry.tokens, signals, states).whole()
     begin = entry.tokens[0].begin
     if rules.size(tree) > rules.SIZE:
         raise Bad(begin, 'a rule of at most %d operators and names' % rules.SIZE, 'It has %d. Say it shorter, or watch two rules in two folders.' % rules.size(tree))
@@ -319,17 +361,19 @@ def broken(head, names, none='none'):
 
 # ---- seen.txt ----
 
+SIGHTS = ('on', 'off', 'all', 'nothing', 'restart', 'event')
+
+
 def read_seen(text, names):
     """The events of seen.txt, or Bad. A line has parts with `;` between them: `event 7`, `restart`, `all`, `nothing`, `on ..`, `off ..`."""
     events, at = [], 0
     while at < len(text):
-        end = line_end(text, at)
-        found = tokens(text, at, end)
-        while goes_on(found) and end < len(text):
-            end = line_end(text, end + 1)
-            found = tokens(text, at, end)
+        found, end = value_from(text, at, line_end(text, at))
         if len(found) > 1:
             events.append(read_event(Listed(found), names, events))
+            most = most_events(len(names.signal), events[0].number is not None)
+            if len(events) > most:
+                raise Bad(found[0].begin, 'the end of the file: of this plant a log has at most %s events' % '{:,}'.format(most), 'Begin a new log here: it is watched by itself, from a starting state.')
         at = end + 1
     return events
 
@@ -352,38 +396,68 @@ def read_number(reader, before):
         return None
     reader.at += 1
     token = reader.here()
-    if not (token.kind == 'word' and token.text.isascii() and token.text.isdigit() and int(token.text) < NUMBERS):
-        raise Bad(token.begin, 'the number of the event, 0 to 4294967295')
+    number = number_in(token.text, NUMBERS - 1) if token.kind == 'word' else None
+    if number is None:
+        raise Bad(token.begin, 'the number of the event, 0 to %d' % (NUMBERS - 1))
     reader.at += 1
     if not reader.sign(';'):
         raise Bad(reader.here().begin, '`;`, and then what was seen')
-    expected = before[-1].number + 1 if before and before[-1].number is not None else None
-    if expected is not None and not expected <= int(token.text) <= expected + MISSING:
-        raise Bad(token.begin, 'a number from %d to %d' % (expected, expected + MISSING), 'Numbers go up, and at most %d may be missing in a row. Begin a new log here.' % MISSING)
-    return int(token.text)
+    first = before[-1].number + 1 if before and before[-1].number is not None else number
+    last = min(first + MISSING, NUMBERS - 1)
+    if first > last:
+        raise Bad(token.begin, 'no further event: %d was the last number' % last, 'Begin a new log here.')
+    if not first <= number <= last:
+        raise Bad(token.begin, 'a number from %d to %d' % (first, last), 'Numbers go up, and at most %d may be missing in a row. Begin a new log here.' % MISSING)
+    return number
 
 
 def read_sight(reader, names):
     """What was seen on, and what off."""
-    what, everything = '`on`, `off`, `all`, `nothing`, `restart` or `event`', set(range(len(names.signal)))
     if reader.is_none():
         return set(), set()
     if reader.word('all'):
         if not reader.sign(';') or not reader.word('on'):
             raise Bad(reader.here().begin, '`; on`, and the signals that were on', '`all; on nothing` says that all was seen, and nothing was on.')
-        on = reader.set(names.signal, 'signal')
-        return on, everything - on
+        on = signals_of(reader, names)
+        return on, set(range(len(names.signal))) - on
     seen = {}
     while not seen or reader.sign(';'):
         part = next((p for p in ('on', 'off') if p not in seen and reader.word(p)), None)
         if not part:
-            raise Bad(reader.here().begin, what if not seen else '`on` or `off`, each once')
+            what = '`on` or `off`, each once' if seen else '`on`, `off`, `all`, `nothing`, `restart` or `event`'
+            raise Bad(reader.here().begin, what, no_sight(reader.here().text, names))
         begin = reader.here().begin
-        seen[part] = reader.set(names.signal, 'signal')
+        seen[part] = signals_of(reader, names)
     on, off = seen.get('on', set()), seen.get('off', set())
     if on & off:
         raise Bad(begin, 'signals that are not in the other list', '`%s` can\'t be both on and off.' % names.signal[min(on & off)])
     return on, off
+
+
+def signals_of(reader, names):
+    """The signals behind `on` or `off`."""
+    if reader.here()[:2] == ('sign', ':'):
+        raise Bad(reader.here().begin, 'the name of a signal, or `nothing`', 'In a log no colon stands behind `on` and `off`.')
+    try:
+        return reader.set(names.signal, 'signal', ('state', names.state))
+    except Bad as bad:
+        words = [t.text for t in itertools.takewhile(lambda t: t.kind == 'word', (t for t in reader.tokens if t.begin >= bad.place))]
+        part = next((w for w in ('on', 'off') if w in words), None)
+        raise Bad(bad.place, bad.expected, 'Before `%s` stands a `;`: `on a; off b, c`.' % part if part and not bad.hint.endswith(COMMA) else bad.hint) from None
+
+
+def no_sight(word, names):
+    """A hint on what begins no part of a line."""
+    if word.lower() in SIGHTS and word not in SIGHTS:
+        return 'It is written small: `%s`.' % word.lower()
+    if word in SIGHTS:
+        return 'The order is: `event 7; restart; on a; off b`.'
+    if word.isdigit():
+        return 'A number stands behind `event`: `event %s; ..`.' % word[:10]
+    if word in ('see', 'num'):
+        return 'This is a line of log.txt, which the programs read. With log.txt in its place, tools/plant FOLDER --back puts it into words.'
+    starts = [s for s in names.signal if s.split()[0] == word]
+    return 'Say whether it was on or off: `on %s`, or `off %s`.' % (starts[0], starts[0]) if starts else ''
 
 
 def write_event(event, names, number=True):
