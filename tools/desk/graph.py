@@ -1,6 +1,6 @@
 """What a table's arrows say: which states runs visit, and where the plant can be by what was seen. Advice alone: lamps come from the programs."""
 
-from desk.texts import MISSING, lost, members
+from desk.texts import MISSING, lost, members, weight
 
 
 def reached(table, begin):
@@ -35,24 +35,66 @@ def visited(table):
 
 
 def agrees(event, label):
-    return all((event.val >> p & 1) == (p in label) for p in members(event.see))
+    return not (weight(label) ^ event.val) & event.see
 
 
 def moved(table, states, live):
     return {t for s in states for t in table.next[s]} & live
 
 
+# ---- along a log. Sets of states are numbers here, bit k for state k: a log is long ----
+
+class Moves:
+    """Where moves lead. Eight states are looked up at once."""
+
+    def __init__(self, next_):
+        numbers = [weight(n) for n in next_] + [0] * (-len(next_) % 8)
+        self.rows = [together(numbers[k:k + 8]) for k in range(0, len(numbers), 8)]
+
+    def of(self, states):
+        found = 0
+        for row in self.rows:
+            found |= row[states & 255]
+            states >>= 8
+        return found
+
+
+def together(sets):
+    """For each choice of some sets, as a number, all their members."""
+    row = [0]
+    for one in sets:
+        row += [other | one for other in row]
+    return row
+
+
+class Fitting:
+    """The states that fit an event; for one that is missing all of them."""
+
+    def __init__(self, table):
+        self.labels, self.known = [weight(label) for label in table.label], {None: (1 << table.states) - 1}
+
+    def of(self, event):
+        key = event and (event.see, event.val)
+        if key not in self.known:
+            self.known[key] = weight(s for s, label in enumerate(self.labels) if not (label ^ event.val) & event.see)
+        return self.known[key]
+
+
+def possible(table, row):
+    """At each position of a row of events, missing ones put in, the states in which the plant can be."""
+    live, moves, fitting, found = weight(endless(table)), Moves(table.next), Fitting(table), []
+    for event in row:
+        states = moves.of(found[-1]) if found else weight(table.start)
+        found.append(states & live & fitting.of(event))
+    return found
+
+
 def where(table, events):
     """The states in which the plant can be: at the beginning, and at each event. Events that are missing are moves that nobody saw."""
-    live = endless(table)
-    states, rows = table.start & live, []
-    begin = states
-    for n, (event, gap) in enumerate(zip(events, lost(events))):
-        for _ in range(min(max(gap, 0), MISSING) + 1 if n else 0):
-            states = moved(table, states, live)
-        states = {s for s in states if agrees(event, table.label[s])}
-        rows.append(frozenset(states))
-    return [frozenset(begin)] + rows
+    row, places = filled(events)
+    found = possible(table, row)
+    sets = {states: frozenset(members(states)) for states in set(found)}
+    return [frozenset(table.start & endless(table))] + [sets[found[place]] for place in places]
 
 
 def filled(events):

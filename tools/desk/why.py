@@ -1,11 +1,12 @@
 """Why a lamp is lit, in words: what happened, where the plant can be, how runs of each kind go on. Lamps and ways on come from the proved programs;
-the states where the plant can be, and the walks that lead there, are worked out here and are advice."""
+the states where the plant can be, and the walks that lead there, are worked out by this tool and are advice."""
 import os
 import tempfile
 
 from desk import graph, program, rules, texts
 from desk.lamps import COLOURS, MEANS, changes
 from desk.trouble import counted, listed, put
+from desk.walks import walks
 from desk.words import told_event
 
 KIND = {True: 'keeps', False: 'breaks'}
@@ -62,81 +63,6 @@ class Story:
 def copy(source, target):
     with open(target, 'wb') as file:
         file.write(texts.contents(source))
-
-
-# ---- the walk that led here ----
-
-def walks(story, way):
-    """For each kind, a walk from the beginning to the last event that fits all events and, with this way on, keeps (True) or breaks (False) the rule. Back from
-    the way on: the truth of the rule's parts at a moment follows from the label there and from their truth at the next one."""
-    table, parts = story.table, rules.nodes(story.tree)
-    row, places = graph.filled(story.events)
-    if not row:
-        row, places = [None], [0]
-    mark = max([places[n] for n, e in enumerate(story.events) if e.new] or [0])
-    values = rules.judged(story.tree, [table.label[s] for s in way.stem + way.loop], len(way.stem))
-    last = (way.stem + way.loop)[0], tuple(values[part][0] for part in parts)
-    layers = back(table, parts, row, mark, last)
-    return {kind: walk for kind, walk in ((kind, forth(table, layers, parts, mark, kind)) for kind in (True, False)) if walk}
-
-
-def back(table, parts, row, mark, last):
-    """For each position the pairs of a state and the truth of the parts from which the last one is reached, each with a pair that follows. Before the mark the rule
-    is not judged, so from there back only whether it will be kept is carried. Equal layers of a long log are worked out once."""
-    ahead, known = graph.endless(table), {}
-    before = [[r for r in range(table.states) if s in table.next[r] and r in ahead] for s in range(table.states)]
-    can_be = reachable(table, row, ahead)
-    layer = {last: None} if last[0] in can_be[-1] else {}
-    layers = [{(s, v[-1]): None for s, v in layer} if mark == len(row) - 1 else layer]
-    for i in reversed(range(len(row) - 1)):
-        key = frozenset(layers[-1]), frozenset(can_be[i]), (i > mark) - (i < mark)
-        if key not in known:
-            known[key] = one_back(table, parts, layers[-1], before, can_be[i], i - mark)
-        layers.append(known[key])
-    return layers[::-1]
-
-
-def one_back(table, parts, layer, before, can_be, beyond):
-    """The pairs one position earlier. `beyond` is how far behind the mark that is."""
-    found, known = {}, {}
-    for s, v in layer:
-        for r in before[s]:
-            if r in can_be:
-                if beyond >= 0 and (table.label[r], v) not in known:
-                    known[table.label[r], v] = truth(parts, table.label[r], v)
-                value = v if beyond < 0 else known[table.label[r], v]
-                found.setdefault((r, value[-1] if beyond == 0 else value), (s, v))
-    return found
-
-
-def reachable(table, row, ahead):
-    """At each position the states in which a walk that fits can be."""
-    rows, states = [], table.start & ahead
-    for i, event in enumerate(row):
-        states = states if i == 0 else graph.moved(table, states, ahead)
-        states = {s for s in states if event is None or graph.agrees(event, table.label[s])}
-        rows.append(states)
-    return rows
-
-
-def truth(parts, label, later):
-    """The truth of the parts at a moment, by its label and their truth at the next."""
-    ahead, found = dict(zip(parts, later)), {}
-    for part in parts:
-        below = part[1:] if part[0] != 'p' else ()
-        found[part] = rules.now(part, label, [found[b] for b in below], [ahead[b] for b in below], ahead[part])
-    return tuple(found[part] for part in parts)
-
-
-def forth(table, layers, parts, mark, kind):
-    """A walk through the layers at whose mark the rule has the value asked for."""
-    for pair in sorted(layers[0]):
-        if pair[0] in table.start and pair[1] == kind:
-            walk = [pair]
-            for layer, _ in zip(layers, layers[1:]):
-                walk.append(layer[walk[-1]])
-            return [s for s, _ in walk]
-    return None
 
 
 # ---- told ----
