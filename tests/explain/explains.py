@@ -12,7 +12,7 @@ sys.path.insert(0, os.path.join(HOME, 'tests', 'plant'))
 import thrown
 from started import Tool
 
-from desk import doctor, graph, program, refusals, rules, texts, why, words
+from desk import doctor, graph, others, program, refusals, rules, texts, why, words
 from desk.trouble import Bad
 
 PLANT = '''props=2
@@ -93,6 +93,53 @@ CASES = [
     ('log.txt', NUMBERED % '00000003', 16, (2, 5), 'goes back'),
     ('log.txt', NUMBERED % '00000016', 16, (2, 5), 'there are 17 missing'),
     ('log.txt', (NUMBERED % '00000005').replace('00000004', 'ffffffff'), 16, (2, 5), 'goes back'),
+]
+
+# What another program says: of which folder, with which files in the place of those that are there, and the status and words that it is told by.
+EVENING, SENT = ('examples', 'sluice_evening'), ('tests', 'reports', 'data', 'right')
+MANY = '0,' * 4096 + '0'
+OTHERS = [
+    ('day', EVENING, {}, 0, ['From event 0 on, 5 events: inconclusive; never true or false.', 'The day ends with presumably-true: the lamp is inconclusive']),
+    ('day', EVENING, {'local.txt': 'rule=Fp0\nclosing=1\n'}, 0, ['true or false for the first time at event', 'The day ends with true']),
+    ('day', EVENING, {'local.txt': 'closing=100\n'}, 1, ['Refusal 18 at byte 10', 'local.txt, line 1, column 11', 'Expected here: the end of the line', 'too large']),
+    ('day', EVENING, {'local.txt': 'closing=05\n'}, 1, ['local.txt, line 1, column 10', 'no zero before']),
+    ('day', EVENING, {'local.txt': 'closing=2\r\n'}, 1, ['local.txt, line 1, column 10', 'line ends of another system']),
+    ('day', EVENING, {'local.txt': 'closing=2'}, 1, ['local.txt, line 1, column 10', 'the line end behind the last line is missing']),
+    ('day', EVENING, {'local.txt': '\xef\xbb\xbfclosing=2\n'}, 1, ['local.txt, line 1, column 1', 'a mark at the file\'s beginning']),
+    ('day', EVENING, {'local.txt': 'Closing=2\n'}, 1, ['local.txt, line 1, column 1', 'Keys are small']),
+    ('day', EVENING, {'local.txt': 'closing = 2\n'}, 1, ['local.txt, line 1, column 8', 'a space']),
+    ('day', EVENING, {'local.txt': '# ours\nclosing=2\n'}, 1, ['local.txt, line 1, column 1', 'a remark']),
+    ('day', EVENING, {'local.txt': 'x' * 1100}, 1, ['Refusal 18 at byte 1024', 'too long for a sheet']),
+    ('day', EVENING, {'shared.txt': 'rule=Fp0\nedition=1\n'}, 1, ['shared.txt, line 2, column 1', 'lines in another order']),
+    ('day', EVENING, {'shared.txt': 'rule=Fp0\nrule=Fp1\n'}, 1, ['shared.txt, line 2, column 1', 'stands there already']),
+    ('day', EVENING, {'shared.txt': 'rule=\n'}, 1, ['shared.txt, line 1, column 6', 'nothing behind its `=`']),
+    ('day', EVENING, {'shared.txt': 'edition=12\nclosing=1\n'}, 1, ['Refusal 17', 'neither local.txt nor shared.txt has a line `rule=`']),
+    ('day', EVENING, {'local.txt': 'rule=p0 p1\n'}, 1, ['Refusal 5 at byte 3: the rule in local.txt is not a rule', 'local.txt, line 1, column 9', 'an operator']),
+    ('day', EVENING, {'local.txt': 'rule=G(p0->Fp1\n'}, 1, ['local.txt, line 1, column 15', 'stops too soon', 'a `)` is missing']),
+    ('day', EVENING, {'shared.txt': 'edition=1\nrule=Fp4\n'}, 1, ['Refusal 6', 'shared.txt, line 2, column 7', 'The plant has 4 signals']),
+    ('day', EVENING, {'local.txt': 'rule=%sp0\n' % ('X' * 7)}, 1, ['Refusal 8', 'local.txt, line 1, column 6', 'This one has 7']),
+    ('day', EVENING, {'local.txt': 'closing=3\n'}, 1, ['Refusal 21', 'local.txt, line 1, column 9', 'This one says 3', '`closing=1` or `closing=2`']),
+    ('day', EVENING, {'log.txt': 'see=00 val=00 new=1\n' * 66}, 1, ['Refusal 23 at byte 1280', 'log.txt, line 65, column 1', '1 event more']),
+    ('day', EVENING, {'log.txt': 'see=0f'}, 1, ['Refusal 12', 'log.txt, line 1, column 7']),
+    ('day', EVENING, {'local.txt': None}, 1, ['local.txt is not there', 'is an empty file']),
+    ('day', EVENING, {'log.txt': None}, 1, ['log.txt is not there']),
+    ('judge', SENT, {}, 0, ['accepted: the report is right']),
+    ('judge', SENT, {'report.txt': 'claim=true\nkeeps stem=0,1 loop=2,0,1\n'}, 0, ['wrong verdict']),
+    ('judge', SENT, {'report.txt': ''}, 1, ['report.txt, line 1, column 1', 'is not of the form of a report', 'the file is empty']),
+    ('judge', SENT, {'report.txt': 'claim=maybe\n'}, 1, ['report.txt, line 1, column 7', 'a claim that is none of']),
+    ('judge', SENT, {'report.txt': 'claim=true\r\n'}, 1, ['report.txt, line 1, column 11', 'line ends of another system']),
+    ('judge', SENT, {'report.txt': 'claim=true\nkeeps stem=0, 1 loop=0\n'}, 1, ['report.txt, line 2, column 14', 'a space behind a comma']),
+    ('judge', SENT, {'report.txt': 'claim=true\nkeeps stem=0;1 loop=0\n'}, 1, ['report.txt, line 2, column 13', 'another sign between states']),
+    ('judge', SENT, {'report.txt': 'claim=true\nbreaks stem= loop=0\nkeeps stem= loop=0\n'}, 1, ['report.txt, line 3, column 1', 'lines in another order']),
+    ('judge', SENT, {'report.txt': 'claim=true\nkeeps stem=0 loop=0'}, 1, ['report.txt, line 2, column 20', 'the line end behind the last line is missing']),
+    ('judge', SENT, {'report.txt': 'claim=inconclusive\nkeeps stem=0,1 loop=2,0,1\nbreaks stem=%s loop=0\n' % MANY}, 1, ['Refusal 22', 'report.txt, line 3, column 1', 'has 4,098 states']),
+    ('judge', SENT, {'report.txt': None}, 1, ['report.txt is not there']),
+    ('judge', SENT, {'rule.txt': 'Fp1\n\n'}, 1, ['Refusal 5', 'rule.txt, line 1, column 4']),
+    ('machine', ('examples', 'turbine'), {}, 0, ['There is a machine', 'tools/try']),
+    ('machine', ('examples', 'station'), {}, 1, ['The plant has 13 signals, and a machine is made for at most 3']),
+    ('machine', ('examples', 'turbine'), {'rule.txt': 'p0&\n'}, 1, ['Refusal 5', 'rule.txt, line 1, column 4']),
+    ('table', ('examples', 'lock'), {'rule.txt': None}, 0, ['takes plant.txt, and writes the same']),
+    ('table', ('examples', 'lock'), {'plant.txt': 'props=2\r\n'}, 1, ['Refusal 3', 'line ends of another system']),
 ]
 
 # Small plants in words, and what the doctor must say of each; nothing where nothing is wrong.
@@ -193,6 +240,35 @@ def try_bytes(room, seed):
             if 'Expected here: ' not in said or '^' not in said or 'What to do: ' not in said:
                 fail('bytes that are not explained: %r\n%s' % (text, said))
         put(folder, GOOD)
+
+
+def try_others(room):
+    """What the other programs say is told."""
+    for k, (name, at, files, status, phrases) in enumerate(OTHERS):
+        folder = os.path.join(room, 'other%d' % k)
+        shutil.copytree(os.path.join(HOME, *at), folder)
+        for file, text in files.items():
+            os.remove(os.path.join(folder, file))
+        put(folder, files)
+        asked(status, phrases, folder, '--of', name)
+    asked(1, ['`--of` names a program: table, machine, day or judge'], room, '--of', 'tables')
+    asked(1, ['there is no folder'], os.path.join(room, 'none'), '--of', 'day')
+
+
+def try_forms(room, seed):
+    """Damaged sheets and reports: what the tool expects stands at the program's place."""
+    for k in range(16):
+        dice = thrown.dice('%s forms %d' % (seed, k))
+        name, at, file = (('day', EVENING, dice.choice(['local.txt', 'shared.txt'])), ('judge', SENT, 'report.txt'))[k % 2]
+        folder = os.path.join(room, 'form%d' % k)
+        shutil.copytree(os.path.join(HOME, *at), folder)
+        text = texts.text_of(folder, file)
+        place = dice.randrange(len(text))
+        put(folder, {file: text[:place] + dice.choice(['', ' ', '\n', '0', ',', '=', 'x', '\r', 'r']) + text[place + dice.randint(0, 1):]})
+        refused = others.REFUSED.fullmatch(program.run(name, folder))
+        said = others.told(name, folder)[0]
+        if refused and refused.group(1) in refusals.SHEETS and ('Expected here: ' not in said or 'Likely cause: ' not in said):
+            fail('what is wrong with %r is not told:\n%s' % (texts.text_of(folder, file), said))
 
 
 # ---- the doctor ----
@@ -380,6 +456,18 @@ def try_walks(story):
     return tried
 
 
+def try_long(room):
+    """The longest log of a large plant with many arrows, and a rule with six temporal operators: it is told in seconds."""
+    dice = thrown.dice('long')
+    every = range(64)
+    table = texts.Table(16, every, [every] * 4, [thrown.some(dice, 16, 0.5) for _ in every], [thrown.some(dice, 64, 0.1) | {(s + 1) % 64} for s in every])
+    tree = rules.read_rule('G(p0->F(p1U(p2&X(p3R(p4|(Fp5&p6))))))&(p7|p8)&(p9->p10)')
+    folder = os.path.join(room, 'long')
+    events = [texts.Event(None, dice.choice([0, 0, 1 << dice.randrange(16)]), 0, False) for _ in range(2730)]
+    thrown.put(folder, words.Plant(table, tree, texts.Names(16, 64, 4)), events)
+    asked(0, ['What happened (2,730 events)', 'The lamp is yellow (inconclusive)', 'A run that breaks the rule can go on so'], folder, timeout=60)
+
+
 PAST = {'plant.txt': 'props=1\nstates=3\nstart=0000000000000003\njust=0\nlabel0=01\nnext0=0000000000000004\nlabel1=00\nnext1=0000000000000004\nlabel2=00\nnext2=0000000000000004\n',
         'rule.txt': 'p0\n', 'log.txt': 'see=00 val=00 new=0\nsee=01 val=00 new=0\n', 'names.txt': 's0=wet\ns1=dry\ns2=shut\n'}
 
@@ -406,19 +494,22 @@ def try_told(room):
 
 def main():
     seed = sys.argv[1] if len(sys.argv) > 1 else '28'
-    for name in ('watch', 'runs'):
+    for name in ('watch', 'runs', 'table', 'machine', 'day', 'judge'):
         if not program.is_built(name):
             fail('target/bin/%s is not there: build it first' % name)
     with tempfile.TemporaryDirectory() as room:
         try_refusals(room)
         try_places(room, seed)
         try_bytes(room, seed)
+        try_others(room)
+        try_forms(room, seed)
         try_doctor(room, seed)
         try_where()
         try_judged(room, seed)
         walks = try_why(room, seed)
+        try_long(room)
         try_told(room)
-    print('explain: %d refusals are told at their places, each number has its text, the doctor finds what is wrong in %d plants and in the lock, and %d walks are runs of their kind' % (len(CASES), len(SICK), walks))
+    print('explain: %d refusals are told at their places, each number has its text, %d answers of other programs are told, the doctor finds what is wrong in %d plants and in the lock, and %d walks are runs of their kind' % (len(CASES), len(OTHERS), len(SICK), walks))
 
 
 main()

@@ -4,8 +4,8 @@ A row is one byte for the verdict, one for `left`, and one for each column: the 
 then by what of that is on, then without and with a restart. Row 0 is the opening."""
 import re
 
-from desk import refusals
-from desk.trouble import Trouble, counted
+from desk import refusals, texts
+from desk.trouble import Bad, Trouble, counted
 
 SIGNALS, ROWS = 3, 256                                                        # the most of each
 VERDICTS = ('inconclusive', 'true', 'false', 'out-of-model')                  # by their numbers
@@ -60,9 +60,18 @@ def refused(output):
     return (int(line.group(1)), int(line.group(2))) if line else None
 
 
-def explained(folder, props, number, place):
+def explained(folder, number, place):
     """Why there is no machine, in words."""
+    props = props_of(folder)
     if number == 1 and props:
         return 'The plant has %s, and a machine is made for at most %d.\nWhat to do: leave out signals that the rule and the sensors do not need, ' \
             'or write a log: tools/draw %s PAGE.html' % (counted(props, 'signal'), SIGNALS, folder)
-    return refusals.explained(folder, number, place)
+    return refusals.explained(folder, number, place, 'machine')
+
+
+def props_of(folder):
+    """The signals of a plant, or 0 where its text is not of the form."""
+    try:
+        return texts.read_table(texts.text_of(folder, 'plant.txt')).props
+    except (Bad, Trouble):
+        return 0

@@ -2,7 +2,7 @@
 import collections
 import os
 
-from desk import rules, texts
+from desk import rules, sheets, texts
 from desk.trouble import Bad, counted, pointed, reason, spot
 
 Kind = collections.namedtuple('Kind', 'title meaning todo')
@@ -60,6 +60,10 @@ KINDS = {
 }
 
 
+REPORT = Kind('report.txt is not of the form of a report', 'Up to this place all is right; this byte can\'t be.',
+              'Correct it there, or ask the neighbour for it anew: a line `claim=`, and the runs as the program `runs` writes them.')
+
+
 def kind_text(number):
     """What a refusal's number means, with no file at hand."""
     kind = KINDS[number]
@@ -68,39 +72,69 @@ def kind_text(number):
 
 # ---- where it stands ----
 
-FILES = {2: 'plant.txt', 3: 'plant.txt', 4: 'rule.txt', 5: 'rule.txt', 6: 'rule.txt', 7: 'rule.txt', 8: 'rule.txt', 10: 'log.txt', 12: 'log.txt', 16: 'log.txt'}
+RUN = 4096          # the most states of a run in a report
+
+FILES = {2: 'plant.txt', 3: 'plant.txt', 4: 'rule.txt', 5: 'rule.txt', 6: 'rule.txt', 7: 'rule.txt', 8: 'rule.txt', 10: 'log.txt', 12: 'log.txt', 16: 'log.txt', 22: 'report.txt', 23: 'log.txt'}
+READS = {
+    'watch': ('plant.txt', 'rule.txt', 'log.txt'), 'table': ('plant.txt',), 'machine': ('plant.txt', 'rule.txt'),
+    'day': ('plant.txt', 'local.txt', 'shared.txt', 'log.txt'), 'judge': ('plant.txt', 'rule.txt', 'log.txt', 'report.txt'),
+}
+SHEETS = {'local': 'local.txt', 'shared': 'shared.txt', 'report': 'report.txt'}          # what a program writes before a refusal of these
+
+Site = collections.namedtuple('Site', 'name begin text')       # a file, or a part of it: where it begins there, and its bytes
 
 
-def explained(folder, number, place):
-    """A refusal of a program on a folder, in words."""
+def explained(folder, number, place, program='watch', word=''):
+    """A refusal of a program on a folder, in words. `word` is what the program wrote before it: a sheet, a key, the report."""
     if number == 14:
-        return unread(folder)
-    if number not in FILES:
+        return unread(folder, READS[program])
+    if number == 17 and word:
+        return '%s\nHere neither local.txt nor shared.txt has a line `%s=`.' % (kind_text(17), word)
+    try:
+        site = site_of(folder, number, program, word)
+        at, detail = FOUND.get(number, not_of_form)(folder, site, number, place) if site else (0, [])
+    except (Bad, LookupError, StopIteration):
+        return '%s\nThe files are not any more those that were refused: start again.' % kind_text(number)
+    if not site:
         return kind_text(number) if number in KINDS else 'Refusal %d at place %d: this tool does not know the number; docs/REFERENCE.md may.' % (number, place)
-    name, kind = FILES[number], KINDS[number]
-    text = texts.text_of(folder, name)
-    at, detail = {2: named_beyond, 10: illegal, 16: out_of_turn, 6: no_signal, 7: too_many, 8: too_many, 4: too_long}.get(number, not_of_form)(folder, text, number, place)
-    line, column, _ = spot(text, at)
-    out = ['Refusal %d at byte %d: %s.' % (number, place, kind.title), '', '%s, line %d, column %d:' % (os.path.join(folder, name), line, column), pointed(text, at)]
-    short = number in (3, 5, 12) and place == whole_length(number, text)
+    kind, whole = kind_of(number, site, word), texts.text_of(folder, site.name)
+    line, column, _ = spot(whole, site.begin + at)
+    out = ['Refusal %d at byte %d: %s.' % (number, place, kind.title), '', '%s, line %d, column %d:' % (os.path.join(folder, site.name), line, column), pointed(whole, site.begin + at)]
+    short = number in (3, 5, 12, 18) and place == len(site.text)
     return '\n'.join(out + ['', 'All that is there is right, but it stops too soon.' if short else kind.meaning] + detail + ['What to do: %s' % kind.todo])
 
 
-def whole_length(number, text):
-    """The length of a text as the program takes it: one line end behind a rule is dropped."""
-    return len(text) - (number == 5 and text.endswith('\n'))
+def kind_of(number, site, word):
+    """What is said of a refusal, by the file that it is about."""
+    if number == 5 and site.name != 'rule.txt':
+        return KINDS[5]._replace(title='the rule in %s is not a rule' % site.name, todo='Correct it there. The signs for a rule in words are printed by tools/plant.')
+    return REPORT if word == 'report' else KINDS[number]
 
 
-def unread(folder):
+def site_of(folder, number, program, word):
+    """The file that a refusal is about, or the part of it. One line end behind a rule is dropped, as the programs do; `day` has its rule from a sheet."""
+    key = 'closing' if number == 21 else 'rule'
+    if program == 'day' and number in (4, 5, 6, 7, 8, 21):
+        for name in ('local.txt', 'shared.txt'):
+            found = sheets.read_sheet(texts.text_of(folder, name))
+            if key in found:
+                return Site(name, *found[key])
+    name = SHEETS.get(word) or FILES.get(number)
+    if not name:
+        return None
+    return Site(name, 0, texts.rule_text(folder) if name == 'rule.txt' else texts.text_of(folder, name))
+
+
+def unread(folder, names):
     """The first file that can't be read, or is too long."""
     kind = KINDS[14]
     out = ['Refusal 14: %s.' % kind.title]
-    for name, most in texts.SIZES.items():
+    for name in names:
         path = os.path.join(folder, name)
-        reason = not_read(path, most)
-        if reason:
-            return '\n'.join(out + ['', '%s %s.' % (path, reason), '', 'What to do: %s' % remedy(name, reason, folder)])
-    return '\n'.join(out + ['', kind.meaning, 'All three can be read now: was one of them just being written? Start again.'])
+        wrong = not_read(path, texts.SIZES.get(name))
+        if wrong:
+            return '\n'.join(out + ['', '%s %s.' % (path, wrong), '', 'What to do: %s' % remedy(name, wrong, folder)])
+    return '\n'.join(out + ['', kind.meaning, 'All can be read now: was one of them just being written? Start again.'])
 
 
 def not_read(path, most):
@@ -110,15 +144,19 @@ def not_read(path, most):
         return 'points to a file that is not there' if os.path.islink(path) else 'is not there'
     try:
         with open(path, 'rb') as file:
-            size = len(file.read(most + 1))
+            size = len(file.read(most + 1 if most else 1))
     except OSError as wrong:
         return 'can\'t be read (%s)' % reason(wrong)
-    return 'has more than the %s bytes that the program takes' % '{:,}'.format(most) if size > most else ''
+    return 'has more than the %s bytes that the program takes' % '{:,}'.format(most) if most and size > most else ''
 
 
 def remedy(name, reason, folder):
     if name == 'log.txt' and reason.startswith('is not there'):
         return 'put the log there; an empty log.txt is a log with no events, and shows the lamp of the start.'
+    if name in ('local.txt', 'shared.txt'):
+        return 'put the settings sheet there. One that says nothing is an empty file.'
+    if name == 'report.txt':
+        return 'put the neighbour\'s report there, of at most 65,536 bytes: a line `claim=`, and the runs as the program `runs` writes them.'
     if name == 'log.txt' and reason.startswith('has more'):
         return 'cut it. Each piece is then watched by itself, from a starting state.'
     if os.path.exists(os.path.join(folder, 'words.txt')) and reason.startswith('is not there'):
@@ -136,7 +174,8 @@ def line_of(text, key):
     return at + len(key) + 1
 
 
-def named_beyond(folder, text, number, place):
+def named_beyond(folder, site, number, place):
+    text = site.text
     table = texts.read_table(text)
     found = texts.beyond(table)
     key, kind, first = found[0]
@@ -153,8 +192,8 @@ def props_of(folder):
     return texts.read_table(texts.text_of(folder, 'plant.txt')).props
 
 
-def illegal(folder, text, number, place):
-    props = props_of(folder)
+def illegal(folder, site, number, place):
+    text, props = site.text, props_of(folder)
     line = text[place:text.find('\n', place)]
     event = texts.read_log(line + '\n', props)[0]
     wide = texts.width(props)
@@ -166,7 +205,8 @@ def illegal(folder, text, number, place):
     return see + 5 + wide + wide - 1 - blind[0] // 4, ['`val` has p%d on, and `see` does not have p%d: what was not seen can\'t have been seen on.' % (blind[0], blind[0])]
 
 
-def out_of_turn(folder, text, number, place):
+def out_of_turn(folder, site, number, place):
+    text = site.text
     events = texts.read_log(text, props_of(folder))
     k = place // texts.line_bytes(text.startswith('n'), props_of(folder))
     here, before = events[k].number, events[k - 1].number
@@ -179,54 +219,73 @@ def out_of_turn(folder, text, number, place):
     return place + 4, [why]
 
 
-def no_signal(folder, text, number, place):
+def no_signal(folder, site, number, place):
     props = props_of(folder)
     return place, ['The plant has %s: %s.' % (counted(props, 'signal'), 'p0 alone' if props == 1 else 'p0 to p%d' % (props - 1))]
 
 
-def too_many(folder, text, number, place):
-    tree = rules.read_rule(text[:-1] if text.endswith('\n') else text)
+def too_many(folder, site, number, place):
+    tree = rules.read_rule(site.text)
     return 0, ['This one has %d.' % (rules.size(tree) if number == 7 else rules.parts(tree))]
 
 
-def too_long(folder, text, number, place):
-    return place, ['This one has %s, and the caret is under the first that is too much.' % counted(len(text) - text.endswith('\n'), 'byte')]
+def too_long(folder, site, number, place):
+    return place, ['This one has %s, and the caret is under the first that is too much.' % counted(len(site.text), 'byte')]
+
+
+def no_edition(folder, site, number, place):
+    return 0, ['This one says %s.' % site.text]
+
+
+def long_run(folder, site, number, place):
+    """The first run of a report that is too long."""
+    _, runs = sheets.read_report(site.text)
+    kind = next(k for k in runs if runs[k] > RUN)
+    return site.text.index('\n%s ' % kind) + 1, ['The one of `%s` has %s.' % (kind, counted(runs[kind], 'state'))]
+
+
+def full_day(folder, site, number, place):
+    return place, ['Behind it the log has %s.' % counted(site.text.count('\n', place) - 1, 'event more', 'events more')]
 
 
 # ---- texts that are not of the form ----
 
-def not_of_form(folder, text, number, place):
+FOUND = {2: named_beyond, 4: too_long, 6: no_signal, 7: too_many, 8: too_many, 10: illegal, 16: out_of_turn, 21: no_edition, 22: long_run, 23: full_day}
+
+
+def form_of(number, site):
+    """Of which form a text should be."""
+    return 'report' if site.name == 'report.txt' else {3: 'plant', 5: 'rule', 12: 'log', 18: 'sheet'}[number]
+
+
+def not_of_form(folder, site, number, place):
+    text, form = site.text, form_of(number, site)
+    readers = {'plant': texts.read_table, 'rule': rules.read_rule, 'log': lambda given: texts.read_log(given, props_of(folder)), 'sheet': sheets.read_sheet, 'report': sheets.read_report}
     expected = ''
     try:
-        if number == 3:
-            texts.read_table(text)
-        elif number == 5:
-            rules.read_rule(text[:-1] if text.endswith('\n') else text)
-        else:
-            texts.read_log(text, props_of(folder))
+        readers[form](text)
     except Bad as bad:
         expected = bad.expected if bad.place == place else ''
     detail = ['Expected here: %s.' % expected] if expected else []
-    causes = [cause for holds, cause in likely(number, text, place) if holds]
+    causes = [cause for holds, cause in likely(form, text, place) if holds]
     return place, detail + ['Likely cause: %s' % c for c in causes[:1]]
 
 
-def likely(number, text, place):
+def likely(form, text, place):
     """Likely causes, the surest first: whether it looks so, and what is said then."""
     here, rest = text[place:place + 1], text[place:]
-    whole = whole_length(number, text)
     line = text[text.rfind('\n', 0, place) + 1:]
-    return common(number, text, place, here, rest, whole, line) + {3: of_plant, 5: of_rule, 12: of_log}[number](text, place, here, rest, line)
+    return common(form, text, place, here, rest, line) + {'plant': of_plant, 'rule': of_rule, 'log': of_log, 'sheet': of_sheet, 'report': of_report}[form](text, place, here, rest, line)
 
 
-def common(number, text, place, here, rest, whole, line):
+def common(form, text, place, here, rest, line):
     return [
         (not text, 'the file is empty.'),
         (text.startswith('\xef\xbb\xbf'), 'a mark at the file\'s beginning (three bytes, "byte order mark") that some editors put there unseen. Save the file as "UTF-8 without BOM", or: tail -c +4 FILE > NEW'),
         (text[:2] in ('\xff\xfe', '\xfe\xff') or '\0' in text, 'the file was saved as UTF-16, two bytes for each letter. Save it as plain text (ASCII, or UTF-8 without a mark).'),
         (here == '\r', 'line ends of another system (Windows): each line ends with two bytes, CR and LF, and only LF is taken. Save the file with "Unix line ends", or: tr -d \'\\r\' < FILE > NEW'),
-        (place == whole and number != 5 and not text.endswith('\n'), 'the file stops too soon: ' + ('the line end behind the last line is missing.' if full(number, line) else 'its end is cut off.')),
-        (place == whole and number == 3, 'the file stops too soon: lines are missing at its end.'),
+        (place == len(text) and form != 'rule' and not text.endswith('\n'), 'the file stops too soon: ' + ('the line end behind the last line is missing.' if full(form, line) else 'its end is cut off.')),
+        (place == len(text) and form == 'plant', 'the file stops too soon: lines are missing at its end.'),
         (here == '\t', 'a tab. Only spaces may stand there, and only in a rule.'),
         (here == '\xa0' or rest.startswith('\xc2\xa0'), 'a hard space, as word processors make them. Write a plain one.'),
         (here >= '\x80', 'a letter or sign that is not plain ASCII, perhaps from a word processor (another dash, another quote).'),
@@ -237,9 +296,12 @@ def is_digit(letter):
     return letter != '' and letter in texts.HEXADECIMAL
 
 
-def full(number, line):
+def full(form, line):
     """Whether a last line lacks its line end alone."""
-    return len(line) >= 19 and line[-6:-1] == ' new=' if number == 12 else '=' in line and len(line.split('=', 1)[1]) in (2, 4, 16)
+    if form == 'log':
+        return len(line) >= 19 and line[-6:-1] == ' new='
+    value = line.split('=', 1)[1] if '=' in line else ''
+    return len(value) in (2, 4, 16) if form == 'plant' else value != ''
 
 
 def of_plant(text, place, here, rest, line):
@@ -259,10 +321,9 @@ def of_plant(text, place, here, rest, line):
 
 
 def of_rule(text, place, here, rest, line):
-    whole = text[:-1] if text.endswith('\n') else text
     return [
-        (place == len(whole) and whole.count('(') > whole.count(')'), 'the rule stops too soon: a `)` is missing.'),
-        (place == len(whole), 'the rule stops too soon: something is missing behind its last sign.'),
+        (place == len(text) and text.count('(') > text.count(')'), 'the rule stops too soon: a `)` is missing.'),
+        (place == len(text), 'the rule stops too soon: something is missing behind its last sign.'),
         (here == '\n', 'a second line. A rule is one line, with at most one line end behind it.'),
         (here == ')', 'a `)` too many, or nothing between an operator and it.'),
         (here.isdigit() and text[:place].rstrip('0123456789').endswith('p'), 'a signal beyond p15, or a zero before its number.'),
@@ -271,6 +332,36 @@ def of_rule(text, place, here, rest, line):
         (text[:place].endswith(('&', '|')) and here in '&|', '"and" is one `&`, "or" is one `|`.'),
         (here in '[]<>', 'a sign of another tool: "always" is `G`, "sometime" is `F`.'),
         (here.isalpha(), 'a word or letter that is none of the grammar\'s. Names and words belong into words.txt; tools/plant makes rule.txt from it.'),
+    ]
+
+
+def of_sheet(text, place, here, rest, line):
+    key = line.split('=')[0].split('\n')[0]
+    before = [part.split('=')[0] for part in text[:place].split('\n')[:-1]]
+    value = text[:place].rsplit('\n', 1)[-1].partition('=')[2]
+    return [
+        (place == sheets.SHEET, 'the file is too long for a sheet, or is another file.'),
+        (here == '\n' and text[:place].endswith('\n'), 'an empty line. Lines follow each other, and none stands behind the last.'),
+        (key.strip().lower() in before, 'a line that stands there already: each comes once.'),
+        (key in sheets.KEYS and text[:place].endswith('\n'), 'lines in another order: first `edition=`, then `rule=`, then `closing=`.'),
+        (here == ' ', 'a space. There is none in a sheet but within the rule.'),
+        (key != key.lower(), 'a key in capital letters. Keys are small.'),
+        (here == '\n', 'a line with nothing behind its `=`. Leave the line out.'),
+        (here.isdigit() and value == '0' or here == '0' and value == '', 'a 0 that may not stand there: numbers have no zero before them, and `edition` is at least 1.'),
+        (here.isdigit() and value != '', 'a number that is too large: `edition` goes to 65535, `closing` to 99.'),
+        (here in ('#', ';'), 'a remark. There are none in a sheet.'),
+        (True, 'a key that a sheet has not, or a value that is none.'),
+    ]
+
+
+def of_report(text, place, here, rest, line):
+    return [
+        (here == '\n' and text[:place].endswith('\n'), 'an empty line. Lines follow each other, and none stands behind the last.'),
+        (text[:place].endswith('\n') and rest.startswith('keeps'), 'lines in another order: the run that keeps the rule stands before the one that breaks it, and each comes once.'),
+        (text[:place].endswith(', ') or here == ' ' and text[:place].endswith(','), 'a space behind a comma. There is none between states.'),
+        (here == ';', 'another sign between states: they have commas between them.'),
+        (text[:place].startswith('claim=') and '\n' not in text[:place], 'a claim that is none of inconclusive, true, false and out-of-model, written small.'),
+        (True, 'something that the program `runs` does not write.'),
     ]
 
 

@@ -6,7 +6,7 @@ import unicodedata
 from desk.trouble import Bad, Trouble, reason, told
 
 SIGNALS, STATES, FAIR = 16, 64, 4                                       # the most of each that a table has
-SIZES = {'plant.txt': 2477, 'rule.txt': 513, 'log.txt': 65520}          # the most bytes that the programs take
+SIZES = {'plant.txt': 2477, 'rule.txt': 513, 'log.txt': 65520, 'report.txt': 65536}         # the most bytes that the programs take
 NUMBERS, MISSING = 1 << 32, 16                                          # event numbers; how many may be missing in a row
 HEXADECIMAL = '0123456789abcdefABCDEF'
 
