@@ -204,6 +204,26 @@ def try_wrong(room):
     asked(1, 'line 1, column 6', folder, page, '--lamps', lamps)
 
 
+def try_rules(room):
+    """A rule that can't be read is told on the page where the program refused it, and is trouble beside lamps that know nothing of it."""
+    sluice, page, folder = os.path.join(HOME, 'examples', 'sluice'), os.path.join(room, 'page.html'), os.path.join(room, 'rule \udcfc')
+    shutil.copytree(sluice, folder)
+    os.remove(os.path.join(folder, 'names.txt'))
+    write(folder, 'rule.txt', b'(' * 512)
+    asked(1, 'draw: ', folder, page)
+    write(folder, 'rule.txt', b'x' * 600)
+    asked(1, 'draw: ', folder, page)
+    told = texts.contents(page).decode('utf-8')
+    if 'has more than the 513 bytes' not in told or '<svg' not in told or '<h1>rule \ufffd</h1>' not in told:
+        fail('a rule that is too long is not told beside the plant')
+    for rule, phrase in ((b'x' * 600, 'rule.txt, line 1, column 513'), (b'G(p0\n', 'rule.txt, line 1, column 5'), (b'Gp9\n', 'names p9')):
+        write(folder, 'rule.txt', rule)
+        asked(1, phrase, folder, page, '--lamps', os.path.join(sluice, 'expected.txt'))
+    for lamps in (b'start verdict=true left=' + b'9' * 5000, b'start verdict=true left=1\nn=' + b'9' * 5000 + b' verdict=true left=1\n'):
+        write(room, 'lamps.txt', lamps)
+        asked(1, 'is no output of the program', sluice, page, '--lamps', os.path.join(room, 'lamps.txt'))
+
+
 def try_sensors():
     """The picture of two sensors shows the lamps of the two logs that it stands for."""
     picture = texts.contents(os.path.join(HOME, 'docs', 'sensors.svg')).decode('utf-8')
@@ -222,6 +242,7 @@ def main():
         try_large(room)
         try_refused(room)
         try_wrong(room)
+        try_rules(room)
     try_sensors()
     print('draw: the pages of %d worked plants, of 3 to 64 states and of 3 to 3,276 events are well formed and show their lamps, and what can\'t be drawn is refused in words' % count)
 

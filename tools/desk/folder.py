@@ -31,6 +31,11 @@ def files_of(folder):
 def decoded(folder):
     """The plant that the texts of a folder say."""
     table = texts.table_of(folder)
+    return words.Plant(table, tree_of(folder, table), texts.names_of(folder, table))
+
+
+def tree_of(folder, table):
+    """The rule of a folder. The programs have the last word on it; here a bad one is trouble."""
     text = texts.rule_text(folder)
     try:
         tree = rules.read_rule(text)
@@ -39,7 +44,7 @@ def decoded(folder):
     for k in sorted(rules.used(tree)):
         if k >= table.props:
             raise Trouble('%s names p%d, and the plant has %s' % (os.path.join(folder, 'rule.txt'), k, counted(table.props, 'signal')))
-    return words.Plant(table, tree, texts.names_of(folder, table))
+    return tree
 
 
 def other_files(folder):

@@ -77,9 +77,9 @@ def reason(wrong):
 
 
 def put(path, text):
-    """Writes a text as it stands."""
+    """Writes a text as it stands; the name of a folder may have bytes in it that are no letters, and these are question marks then."""
     try:
-        with open(path, 'w', encoding='utf-8', newline='') as file:
+        with open(path, 'w', encoding='utf-8', errors='replace', newline='') as file:
             file.write(text)
     except OSError as wrong:
         raise Trouble('%s can\'t be written: %s' % (path, reason(wrong))) from None
