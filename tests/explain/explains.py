@@ -477,6 +477,9 @@ def try_told(room):
     folder = os.path.join(room, 'past')
     put(folder, PAST)
     asked(0, ['The two kinds differ in the past: with the very same way on', 'keeps the rule, if it came so: `wet`, `shut`', 'breaks the rule, if it came so: `dry`, `shut`'], folder)
+    files = dict(PAST, **{'rule.txt': 'p0&FGp1\n', 'plant.txt': PAST['plant.txt'].replace('props=1', 'props=2').replace('label2=00\nnext2=0000000000000004', 'label2=02\nnext2=0000000000000005')})
+    put(os.path.join(room, 'too'), files)
+    asked(0, ['The past counts too: with the first way on a run may keep the rule or break it', 'It keeps the rule, if it came so: `wet`, `shut`', 'It breaks the rule, if it came so: `dry`, `shut`'], os.path.join(room, 'too'))
     bottling = os.path.join(HOME, 'examples', 'bottling')
     asked(0, ['The lamp is red (false)', 'It was decided at event 10 (on: belt moves; off: syrup flows)', 'could be in `waits` or `valve sticks`', 'The plant can now be in `empty, capper`', 'No run that fits keeps the rule any more'],
           bottling, '--at', '11')

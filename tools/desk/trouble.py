@@ -91,7 +91,7 @@ def started(tool, main, usage):
     for stream in (sys.stdout, sys.stderr):
         if stream:
             stream.reconfigure(errors='replace')
-    if sys.argv[1:2] and sys.argv[1] in ('--help', '-h', 'help'):
+    if sys.argv[1:2] == ['help'] or {'--help', '-h'} & set(sys.argv[1:]):
         print(usage.strip())
         sys.exit(0)
     try:

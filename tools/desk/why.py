@@ -170,12 +170,16 @@ def went_on(story, ways):
 
 
 def past(story, ways):
-    """Where the same way on belongs to runs of both kinds, the kinds differ in what was before, which nobody saw."""
+    """Where a way on belongs to runs of both kinds, they differ in what was before, which nobody saw."""
     found = [walks(story, way) for way in ways]
-    if len(found[0]) < 2 or len(found[1]) < 2:
+    both = [len(of_way) == 2 for of_way in found]
+    if not any(both):
         return []
-    begin = 'with the very same way on' if ways[0] == ways[1] else 'with either way on'
-    out = ['The two kinds differ in the past: %s a run may keep the rule or break it, by what it did before, which nobody saw.' % begin]
+    if all(both):
+        begin = 'The two kinds differ in the past: with %s way on' % ('the very same' if ways[0] == ways[1] else 'either')
+    else:
+        begin = 'The past counts too: with the %s way on' % ('first' if both[0] else 'second')
+    out = ['%s a run may keep the rule or break it, by what it did before, which nobody saw.' % begin]
     for kind in (True, False):
-        out.append('  It %s the rule, if it came so: %s.' % (KIND[kind], story.row(found[0][kind])))
+        out.append('  It %s the rule, if it came so: %s.' % (KIND[kind], story.row(found[both.index(True)][kind])))
     return out
