@@ -11,6 +11,7 @@ from xml.dom import minidom
 HOME = os.path.dirname(os.path.dirname(os.path.dirname(os.path.abspath(__file__))))
 sys.path.insert(0, os.path.join(HOME, 'tests', 'plant'))
 
+import damaged
 import pictured
 from started import Tool
 
@@ -224,6 +225,15 @@ def try_rules(room):
         asked(1, 'is no output of the program', sluice, page, '--lamps', os.path.join(room, 'lamps.txt'))
 
 
+def try_harm(room):
+    """Worked folders with harmed files are drawn, or what is wrong is told."""
+    page = os.path.join(room, 'page.html')
+    wrong = damaged.try_harm('draw', 30, '28', room, ['plant.txt', 'rule.txt', 'log.txt', 'names.txt'], lambda dice, folder: [folder, page]) \
+        or damaged.try_harm('draw', 200, '5', room, ['rule.txt', 'log.txt', 'names.txt', 'expected.txt'], lambda dice, folder: [folder, page, '--lamps', os.path.join(folder, 'expected.txt')])
+    if wrong:
+        fail('the tool falls over a harmed folder: %s' % wrong)
+
+
 def try_sensors():
     """The picture of two sensors shows the lamps of the two logs that it stands for."""
     picture = texts.contents(os.path.join(HOME, 'docs', 'sensors.svg')).decode('utf-8')
@@ -243,6 +253,7 @@ def main():
         try_refused(room)
         try_wrong(room)
         try_rules(room)
+        try_harm(room)
     try_sensors()
     print('draw: the pages of %d worked plants, of 3 to 64 states and of 3 to 3,276 events are well formed and show their lamps, and what can\'t be drawn is refused in words' % count)
 

@@ -9,6 +9,7 @@ import tempfile
 HOME = os.path.dirname(os.path.dirname(os.path.dirname(os.path.abspath(__file__))))
 sys.path.insert(0, os.path.join(HOME, 'tests', 'plant'))
 
+import damaged
 import thrown
 from started import Tool
 
@@ -271,6 +272,13 @@ def try_forms(room, seed):
             fail('what is wrong with %r is not told:\n%s' % (texts.text_of(folder, file), said))
 
 
+def try_harm(room, seed):
+    """Worked folders with harmed files are explained, or what is wrong is told."""
+    wrong = damaged.try_harm('explain', 40, seed, room, ['plant.txt', 'rule.txt', 'log.txt', 'names.txt', 'words.txt'], lambda dice, folder: [folder] + dice.choice([[], ['--doctor'], ['--at', '3']]))
+    if wrong:
+        fail('the tool falls over a harmed folder: %s' % wrong)
+
+
 # ---- the doctor ----
 
 def by_sweeps(table):
@@ -504,6 +512,7 @@ def main():
         try_refusals(room)
         try_places(room, seed)
         try_bytes(room, seed)
+        try_harm(room, seed)
         try_others(room)
         try_forms(room, seed)
         try_doctor(room, seed)

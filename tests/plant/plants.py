@@ -3,6 +3,7 @@ import os
 import sys
 import tempfile
 
+import damaged as harm
 import thrown
 from started import Tool
 from thrown import HOME
@@ -277,6 +278,23 @@ def try_programs(room, seed):
             fail('the program refuses by %d at %d what the tool writes:\n%s' % (*shown.refused, words.write_words(plant)))
 
 
+def without_words(dice, folder):
+    """A folder whose words are to be made from its texts."""
+    for name in ('words.txt', 'seen.txt'):
+        os.remove(os.path.join(folder, name))
+    return [folder, '--back']
+
+
+def try_harm(room, seed):
+    """Worked folders with harmed files: the tool says what is wrong, or takes them."""
+    built, program.is_built = program.is_built, lambda name: False
+    wrong = harm.try_harm('plant', 300, seed, room, ['words.txt', 'seen.txt'], lambda dice, folder: [folder] + dice.choice([[], [], ['--check']])) \
+        or harm.try_harm('plant', 200, seed, room, ['plant.txt', 'rule.txt', 'log.txt', 'names.txt'], without_words)
+    program.is_built = built
+    if wrong:
+        fail('the tool falls over a harmed folder: %s' % wrong)
+
+
 GUIDE_RULES = ['G!p0', 'Fp0', 'GFp0', 'FGp0', 'G(p0->Fp1)', 'G(p0->XFp1)', 'G(p0->Xp1)', '!p1Up0', 'p0R(!p1|p0)', 'G(p0->(p1Up2))', 'GFp0->GFp1']
 
 
@@ -314,6 +332,7 @@ def main():
         try_tool(room)
         try_places(room)
         try_guide(room)
+        try_harm(room, seed)
         try_programs(room, seed)
     print('plant: 121 plants, rules and logs go into texts and come back, %d bad words are refused at their places, the texts of %d worked plants are those of their words' % (len(WORDS) + len(SEEN), len(folders)))
 
