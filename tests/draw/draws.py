@@ -15,7 +15,7 @@ import damaged
 import pictured
 from started import Tool
 
-from desk import program, texts
+from desk import picture, program, texts
 
 EMPTY = {'meta', 'br', 'link', 'img', 'input', 'hr'}
 
@@ -155,6 +155,17 @@ def try_large(room):
             fail('the page of %d events has %d rows and %d bytes' % (many, rows, len(page)))
 
 
+def try_names():
+    """Names of any letters stand within their boxes: no line is wider than it may be, and no letter is lost but behind a sign."""
+    for text in ('lower gate open', 'WARTUNGSMODUS AM UNTEREN WEHR', 'Donaudampfschifffahrtsgesellschaft', 'm' * 60, 'x', 'half-open valve, north', '水門が完全に閉じている', 'W ' * 30):
+        for most in (99, 3, 1):
+            lines = picture.wrapped(text, 138, picture.NAME, most)
+            bare = ''.join(lines).replace('-', '').replace(' ', '')
+            whole = text.replace('-', '').replace(' ', '')
+            if len(lines) > most or any(picture.ems(line) * picture.NAME > 138.01 for line in lines) or bare != whole and not (lines[-1].endswith('…') and most < 99 and whole.startswith(bare[:-1])):
+                fail('the name "%s" is wrapped as %s' % (text, lines))
+
+
 def try_refused(room):
     """A refused event is marked; a text that is refused is told; and both give another status than 0."""
     folder, lamps = os.path.join(room, 'refused'), os.path.join(room, 'lamps.txt')
@@ -249,6 +260,7 @@ def main():
         count = try_worked(room)
         try_day(room)
         try_outcome(room)
+        try_names()
         try_large(room)
         try_refused(room)
         try_wrong(room)

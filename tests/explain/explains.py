@@ -251,7 +251,11 @@ def try_others(room):
         for file, text in files.items():
             os.remove(os.path.join(folder, file))
         put(folder, files)
-        asked(status, phrases, folder, '--of', name)
+        said, is_refused = others.told(name, folder)
+        if is_refused != bool(status) or any(phrase not in said for phrase in phrases):
+            fail('what `%s` says of %s is not told by %s, but so:\n%s' % (name, files, phrases, said))
+    asked(0, ['The day ends with'], os.path.join(room, 'other0'), '--of', 'day')
+    asked(1, ['Refusal 18'], os.path.join(room, 'other2'), '--of', 'day')
     asked(1, ['`--of` names a program: table, machine, day or judge'], room, '--of', 'tables')
     asked(1, ['there is no folder'], os.path.join(room, 'none'), '--of', 'day')
 

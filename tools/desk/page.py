@@ -41,11 +41,11 @@ circle.set{fill:var(--paper);stroke:var(--set);stroke-width:2}svg .set-name{font
 ul.keys{display:flex;flex-wrap:wrap;gap:4px 22px;margin:.7rem 0 0;padding:0;list-style:none;font-size:.88rem;color:var(--soft)}ul.keys b{color:var(--ink)}
 table{border-collapse:collapse;width:100%}th{text-align:left;white-space:nowrap;font-size:.82rem;color:var(--soft);font-weight:600}th,td{padding:5px 10px 5px 0;border-bottom:1px solid var(--hair);vertical-align:top}
 td.n{white-space:nowrap;font-variant-numeric:tabular-nums}tr.ghost td{color:var(--ghost)}tr.many td{color:var(--soft);font-size:.9rem}
-.chip{display:inline-block;border:1px solid var(--edge);border-radius:9px;padding:0 .5em;margin:1px 3px 1px 0;font-size:.88rem}.chip.yes{background:var(--dark);color:var(--on-dark);border-color:var(--dark)}
-@media (max-width:640px){body{font-size:15px}svg.plant{min-width:calc(.85*var(--wide))}main{padding:12px 8px 28px}section{padding:12px 11px}
+.chip{display:inline-block;border:1px solid var(--edge);border-radius:9px;padding:0 .5em;margin:1px 0;font-size:.88rem}.chip+.chip{margin-left:3px}.narrow{display:none}.chip.yes{background:var(--dark);color:var(--on-dark);border-color:var(--dark)}
+@media (max-width:640px){body{font-size:15px}.narrow{display:block}svg.plant{min-width:calc(.85*var(--wide))}main{padding:12px 8px 28px}section{padding:12px 11px}
 table.log,table.log tbody{display:block}table.log thead{display:none}table.log tr{display:grid;grid-template-columns:auto 1fr auto;gap:2px 10px;padding:7px 0;border-bottom:1px solid var(--hair)}table.log td{border:0;padding:0}table.log td.saw{grid-column:1/-1}
 table.states,table.states tbody{display:block}table.states thead{display:none}table.states tr{display:block;padding:7px 0;border-bottom:1px solid var(--hair)}table.states td{display:block;border:0;padding:0}table.states td.n,table.states td.n+td{display:inline;margin-right:.5em}table.states td[data-k]:before{content:attr(data-k) " ";color:var(--soft)}}
-@media print{body{font-size:10.5pt}main{max-width:none;padding:0}section{border-color:#999;padding:8pt 10pt;margin:8pt 0}tr,li{break-inside:avoid}h2{break-after:avoid}.scroll{overflow:visible}svg.plant{min-width:0!important;max-height:22cm}
+@media print{body{font-size:10.5pt}main{max-width:none;padding:0}section{border-color:#999;padding:8pt 10pt;margin:8pt 0;break-inside:avoid}section.long{break-inside:auto}.narrow{display:none}tr,li{break-inside:avoid}h2{break-after:avoid}.scroll{overflow:visible}svg.plant{min-width:0!important;max-height:22cm}
 .lamp i,.bar span,.chip.yes{-webkit-print-color-adjust:exact;print-color-adjust:exact}}
 '''
 
@@ -176,7 +176,8 @@ class Page:
         keys += ['<b>(%s)</b> %s: every run is again and again in one of these states' % (SETS[j], quote(self.names.fair[j])) for j in range(len(self.table.fair))]
         keys += ['<b>◉ now</b>: the plant can be here at the last event'] if now else []
         keys += ['<b>∅ no run</b>, grey, dashed: no run visits it'] if len(drawing.visited) < self.table.states else []
-        return '<section><h2>The plant</h2><div class="scroll">%s</div><ul class="keys">%s</ul></section>' % (drawing.svg(), ''.join('<li>%s</li>' % k for k in keys))
+        hint = '<p class="soft narrow">Push it sideways where it is wider than the screen.</p>'
+        return '<section><h2>The plant</h2>%s<div class="scroll">%s</div><ul class="keys">%s</ul></section>' % (hint, drawing.svg(), ''.join('<li>%s</li>' % k for k in keys))
 
     def advice(self):
         found = doctor.advice(self.table, self.names, self.tree, self.shown.start.verdict if self.shown.start else None) if self.tree else []
@@ -196,7 +197,7 @@ class Page:
                 '' if s in visited else ' class="ghost"', s, quote(names.state[s]), marks, quote(' · '.join(names.signal[p] for p in sorted(table.label[s])) or 'nothing'),
                 quote(' · '.join(names.state[t] for t in sorted(table.next[s])) or 'nowhere')))
         head = '<tr><th></th><th>state</th><th>signals that are on</th><th>leads to</th></tr>'
-        return '<section><h2>Its states</h2><table class="states"><thead>%s</thead><tbody>%s</tbody></table></section>' % (head, ''.join(rows))
+        return '<section class="long"><h2>Its states</h2><table class="states"><thead>%s</thead><tbody>%s</tbody></table></section>' % (head, ''.join(rows))
 
     # ---- the log ----
 
@@ -252,7 +253,7 @@ class Page:
         keys = ('<li><span class="chip yes">● name</span> seen on</li><li><span class="chip">○ name</span> seen off</li><li>what is not named was not seen</li>'
                 '<li><b>left</b>: states where the plant can be</li>')
         head = '<tr><th>event</th><th>lamp</th><th>left</th><th>seen</th></tr>'
-        return '<section><h2>The log and its lamps</h2>%s<table class="log"><thead>%s</thead><tbody>%s</tbody></table><ul class="keys">%s</ul></section>' % (note, head, ''.join(rows), keys)
+        return '<section class="long"><h2>The log and its lamps</h2>%s<table class="log"><thead>%s</thead><tbody>%s</tbody></table><ul class="keys">%s</ul></section>' % (note, head, ''.join(rows), keys)
 
     def stretch_between(self, first, last):
         verdicts = {self.lamps[k].verdict for k in range(first, last + 1)}

@@ -1,11 +1,14 @@
 """The plant as a drawing (SVG). Colours are classes, so that a page can have others in the dark and on paper; each colour has a sign beside it."""
 import html
 import math
+import unicodedata
 
 from desk import graph
 
-BOX_W, GAP_X, GAP_Y, LINE_H = 150, 58, 46, 15
-PER_LINE, SMALL_PER_LINE, MOST_LINES, RAY = 16, 21, 3, 32
+BOX_W, GAP_X, GAP_Y, LINE_H, TOP = 150, 58, 46, 15, 22
+NAME, SMALL, RAY = 14, 10.4, 11.2          # how wide an em is: of a name in bold, of the signals below it, of a name on a ray
+MOST_LINES, LONGEST = 3, 220               # of a name in a box the most lines, of one on a ray how long it may be
+EMS = {"iljI.,;:'|! ": 0.36, 'frt-()/': 0.48, 'mwMW@%': 1.0}
 SETS = 'abcd'
 TIP = ('<marker id="tip" viewBox="0 0 10 10" refX="9" refY="5" markerWidth="10" markerHeight="10" markerUnits="userSpaceOnUse" orient="auto">'
        '<path class="tip" d="M0,0.8 L10,5 L0,9.2 z"/></marker>')
@@ -19,18 +22,42 @@ def text_at(x, y, text, kind, anchor='middle', extra=''):
     return '<text x="%.1f" y="%.1f" class="%s" text-anchor="%s"%s>%s</text>' % (x, y, kind, anchor, extra, quote(text))
 
 
-def wrapped(text, width, most):
-    """A text in lines of at most so many letters; what is too much is cut, with a sign."""
-    lines = ['']
-    for word in text.split():
-        while len(word) > width:
-            word, rest = word[:width - 1] + '-', word[width - 1:]
-            lines, word = lines + [word], rest
-        if lines[-1] and len(lines[-1]) + 1 + len(word) > width:
+def ems(text):
+    """About how wide a text is, in ems of a sans-serif bold: no browser is asked."""
+    return sum(one_em(character) for character in text)
+
+
+def one_em(character):
+    if unicodedata.east_asian_width(character) in 'WF':
+        return 1.0
+    return next((wide for among, wide in EMS.items() if character in among), 0.8 if character.isupper() else 0.67)
+
+
+def fitting(text, most):
+    """As many letters of a text as are at most so wide, one at least."""
+    return next((k for k in range(1, len(text)) if ems(text[:k + 1]) > most), len(text))
+
+
+def pieces(word, most):
+    """A word, or the parts of one that is too wide for a line, with a dash where letters are parted."""
+    found = []
+    while ems(word) > most:
+        at = fitting(word, most - EMS['frt-()/'])
+        found.append(word[:at] + ('-' if word[at - 1].isalpha() and ems(word[at - 1]) < 1 else ''))
+        word = word[at:]
+    return found + [word]
+
+
+def wrapped(text, wide, em, most):
+    """A text in lines that are at most so wide; what is too much is cut, with a sign."""
+    lines, room = [''], wide / em
+    for piece in (piece for word in text.split() for piece in pieces(word, room)):
+        if lines[-1] and ems(lines[-1] + ' ' + piece) > room:
             lines.append('')
-        lines[-1] += (' ' if lines[-1] else '') + word
-    lines = [line for line in lines if line]
-    return lines if len(lines) <= most else lines[:most - 1] + [lines[most - 1][:width - 1] + '…']
+        lines[-1] += (' ' if lines[-1] else '') + piece
+    if len(lines) <= most:
+        return lines
+    return lines[:most - 1] + [lines[most - 1][:fitting(lines[most - 1], room - 1)].rstrip(' -·') + '…']
 
 
 class Drawing:
@@ -45,11 +72,11 @@ class Drawing:
     def lines(self, s):
         """What stands in a state's box: its name, and the signals that are on."""
         on = ' · '.join(self.names.signal[p] for p in sorted(self.table.label[s]))
-        return wrapped(self.names.state[s], PER_LINE, MOST_LINES), wrapped(on, SMALL_PER_LINE, MOST_LINES) or ['(nothing on)']
+        return wrapped(self.names.state[s], BOX_W - 12, NAME, MOST_LINES), wrapped(on or '(nothing on)', BOX_W - 12, SMALL, MOST_LINES)
 
     def high(self, s):
         name, on = self.lines(s)
-        return 22 + LINE_H * (len(name) + len(on))
+        return TOP + 3 + LINE_H * (len(name) + len(on))
 
     def kind(self, s):
         return ' '.join(['state'] + ['start'] * (s in self.table.start) + ['ghost'] * (s not in self.visited) + ['now'] * (s in self.now))
@@ -148,12 +175,10 @@ def backward(a, b, heights, lane, up, free):
 
 
 def badges(drawing, s, x, y, step):
-    """The fairness sets of a state: each a letter in a ring."""
-    out = []
-    for j, fair in enumerate(drawing.table.fair):
-        if s in fair:
-            out.append('<circle class="set" cx="%.1f" cy="%.1f" r="8"/>%s' % (x - step * j, y, text_at(x - step * j, y + 3.5, SETS[j], 'set-name')))
-    return ''.join(out)
+    """The fairness sets of a state: each a letter in a ring, in turn, the last one at this place."""
+    letters = [SETS[j] for j, fair in enumerate(drawing.table.fair) if s in fair]
+    spots = [x - step * k for k in reversed(range(len(letters)))]
+    return ''.join('<circle class="set" cx="%.1f" cy="%.1f" r="8"/>%s' % (at, y, text_at(at, y + 3.5, letter, 'set-name')) for at, letter in zip(spots, letters))
 
 
 def box(drawing, s, centre):
@@ -162,12 +187,12 @@ def box(drawing, s, centre):
     left, top = x - BOX_W / 2, y - high / 2
     name, on = drawing.lines(s)
     out = ['<g class="%s"><title>%s</title><rect x="%.1f" y="%.1f" width="%d" height="%.1f" rx="12"/>' % (drawing.kind(s), quote(drawing.title(s)), left, top, BOX_W, high)]
-    row = top + 19
+    row = top + TOP                      # below the number, which stands on the corner
     for kind, lines in (('name', name), ('on', on)):
         for line in lines:
             out.append(text_at(x, row, line, kind))
             row += LINE_H
-    out.append('<circle class="number" cx="%.1f" cy="%.1f" r="11"/>%s' % (left + 2, top + 2, text_at(left + 2, top + 6, s, 'number-text')))
+    out.append('<circle class="number" cx="%.1f" cy="%.1f" r="11"/>%s' % (left, top, text_at(left, top + 4, s, 'number-text')))
     out.append(badges(drawing, s, left + BOX_W - 12, top + high, 19))
     if s in drawing.table.start:
         out.append('<path class="begin" d="M%.1f,%.1f L%.1f,%.1f" marker-end="url(#tip)"/>%s' % (left - 46, y, left - 4, y, text_at(left - 48, y - 8, 'start', 'mark', 'start')))
@@ -214,19 +239,20 @@ def circle(drawing):
     table = drawing.table
     radius = max(150, table.states * 4.4)
     rays = [ray(drawing, s) for s in range(table.states)]
-    reach = radius + 30 + 7 * max(len(r) for r in rays)
     angle = [2 * math.pi * s / table.states - math.pi / 2 for s in range(table.states)]
     spot = [(radius * math.cos(a), radius * math.sin(a)) for a in angle]
     out = [move(drawing, s, t, bow(spot[s], spot[t], radius)) for s in range(table.states) for t in sorted(table.next[s])]
-    for s, (x, y) in enumerate(spot):
-        out.append(bead(drawing, s, x, y, angle[s], rays[s]))
-    return ''.join(out), (-reach, -reach, 2 * reach, 2 * reach)
+    out += [bead(drawing, s, x, y, angle[s], rays[s]) for s, (x, y) in enumerate(spot)]
+    ends = [1 + (16 + RAY * ems(words)) / radius for words in rays]
+    xs, ys = [x * far for (x, _), far in zip(spot, ends)], [y * far for (_, y), far in zip(spot, ends)]
+    left, top = min(xs) - 16, min(ys) - 16
+    return ''.join(out), (left, top, max(xs) + 16 - left, max(ys) + 16 - top)
 
 
 def ray(drawing, s):
     """What stands on a state's ray: its name, with the signs that a box would have."""
     before = ''.join(sign for sign, holds in (('▶ ', s in drawing.table.start), ('◉ ', s in drawing.now), ('∅ ', s not in drawing.visited)) if holds)
-    return before + wrapped(drawing.names.state[s], RAY, 1)[0] + ''.join(' (%s)' % SETS[j] for j, fair in enumerate(drawing.table.fair) if s in fair)
+    return before + wrapped(drawing.names.state[s], LONGEST, RAY, 1)[0] + ''.join(' (%s)' % SETS[j] for j, fair in enumerate(drawing.table.fair) if s in fair)
 
 
 def bow(a, b, radius):
@@ -236,7 +262,8 @@ def bow(a, b, radius):
         x, y = x * (1 - 8 / radius), y * (1 - 8 / radius)
         dx, dy = -x / radius, -y / radius
         return curve(x, y, x + 34 * dx - 16 * dy, y + 34 * dy + 16 * dx, x + 34 * dx + 16 * dy, y + 34 * dy - 16 * dx, x + 2 * dx, y + 2 * dy)
-    mx, my = (x + u) * 0.28, (y + v) * 0.28
+    pull = 1 - min(0.44, 0.12 + 0.32 * math.hypot(u - x, v - y) / radius)       # between neighbours the bow is flat
+    mx, my = (x + u) / 2 * pull, (y + v) / 2 * pull
     length = math.hypot(u - mx, v - my) or 1
     return 'M%.1f,%.1f Q%.1f,%.1f %.1f,%.1f' % (x, y, mx, my, u - (u - mx) / length * 11, v - (v - my) / length * 11)
 
