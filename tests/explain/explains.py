@@ -255,6 +255,9 @@ def try_others(room):
         if is_refused != bool(status) or any(phrase not in said for phrase in phrases):
             fail('what `%s` says of %s is not told by %s, but so:\n%s' % (name, files, phrases, said))
     asked(0, ['The day ends with'], os.path.join(room, 'other0'), '--of', 'day')
+    for file in ('rule.txt', 'words.txt'):
+        os.remove(os.path.join(room, 'other0', file))
+    asked(1, ['rule.txt is not there', '--of day'], os.path.join(room, 'other0'))
     asked(1, ['Refusal 18'], os.path.join(room, 'other2'), '--of', 'day')
     asked(1, ['`--of` names a program: table, machine, day or judge'], room, '--of', 'tables')
     asked(1, ['there is no folder'], os.path.join(room, 'none'), '--of', 'day')
@@ -335,6 +338,10 @@ def mend(lock, folder):
     asked(0, ['Mind: the words say something else than plant.txt, names.txt', 'The lamp is red (false)'], folder)
     put(folder, {'seen.txt': 'on nobody\n'})
     asked(0, ['Mind: words.txt or seen.txt can\'t be read'], folder)
+    put(folder, {'seen.txt': 'nothing\n'})
+    os.remove(os.path.join(folder, 'rule.txt'))
+    os.mkdir(os.path.join(folder, 'rule.txt'))
+    asked(1, ['Mind: the words say something else than plant.txt, rule.txt', 'rule.txt is a folder, and a file is needed'], folder)
 
 
 # ---- why ----
@@ -484,6 +491,23 @@ PAST = {'plant.txt': 'props=1\nstates=3\nstart=0000000000000003\njust=0\nlabel0=
         'rule.txt': 'p0\n', 'log.txt': 'see=00 val=00 new=0\nsee=01 val=00 new=0\n', 'names.txt': 's0=wet\ns1=dry\ns2=shut\n'}
 
 
+def try_guide(room):
+    """What docs/GUIDE.md shows is what the tool says: of the folder that is begun, of the sluice, of the lock; and it has a row for each number, in turn."""
+    guide = texts.contents(os.path.join(HOME, 'docs', 'GUIDE.md')).decode('utf-8')
+    folder = os.path.join(room, 'guide')
+    for given in ([folder, '--new'], [folder]):
+        subprocess.run([sys.executable, '-B', os.path.join(HOME, 'tools', 'plant'), *given], stdout=subprocess.DEVNULL, check=True)
+    shown = [('The second answers:', [folder]), ('$ tools/explain examples/sluice --at 9', [os.path.join(HOME, 'examples', 'sluice'), '--at', '9']), ('`tools/explain` finds that:', [os.path.join(HOME, 'examples', 'lock')])]
+    for begin, given in shown:
+        block = re.match(r'[^\n]*\n+((?:    [^\n]*\n|\n)+)', guide[guide.index(begin):]).group(1)
+        said = run(*given)[1]
+        for line in (part.strip() for row in block.splitlines() for part in row.split('..')):
+            if line not in said:
+                fail('docs/GUIDE.md shows "%s", and the tool does not say it:\n%s' % (line, said))
+    if [int(n) for n in re.findall(r'(?m)^\| (\d+) \|', guide)] != sorted(refusals.KINDS):
+        fail('docs/GUIDE.md does not have each refusal in turn')
+
+
 def try_told(room):
     """What must be said of some folders."""
     folder = os.path.join(room, 'past')
@@ -525,6 +549,7 @@ def main():
         walks = try_why(room, seed)
         try_long(room)
         try_told(room)
+        try_guide(room)
     print('explain: %d refusals are told at their places, each number has its text, %d answers of other programs are told, the doctor finds what is wrong in %d plants and in the lock, and %d walks are runs of their kind' % (len(CASES), len(OTHERS), len(SICK), walks))
 
 

@@ -53,8 +53,11 @@ def other_files(folder):
 
 
 def held(folder, name):
-    path = os.path.join(folder, name)
-    return texts.contents(path) if os.path.exists(path) else b'(none)'
+    """The bytes of a file; of one that can't be read none that a text has."""
+    try:
+        return texts.contents(os.path.join(folder, name))
+    except Trouble:
+        return b'(none)'
 
 
 def stale(folder):

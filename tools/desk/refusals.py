@@ -150,20 +150,22 @@ def not_read(path, most):
     return 'has more than the %s bytes that the program takes' % '{:,}'.format(most) if most and size > most else ''
 
 
-def remedy(name, reason, folder):
-    if name == 'log.txt' and reason.startswith('is not there'):
+def remedy(name, wrong, folder):
+    if name == 'log.txt' and wrong.startswith('is not there'):
         return 'put the log there; an empty log.txt is a log with no events, and shows the lamp of the start.'
     if name in ('local.txt', 'shared.txt'):
         return 'put the settings sheet there. One that says nothing is an empty file.'
     if name == 'report.txt':
         return 'put the neighbour\'s report there, of at most 65,536 bytes: a line `claim=`, and the runs as the program `runs` writes them.'
-    if name == 'log.txt' and reason.startswith('has more'):
+    if name == 'log.txt' and wrong.startswith('has more'):
         return 'cut it. Each piece is then watched by itself, from a starting state.'
-    if os.path.exists(os.path.join(folder, 'words.txt')) and reason.startswith('is not there'):
+    if os.path.exists(os.path.join(folder, 'words.txt')) and wrong.startswith('is not there'):
         return 'words.txt is there, so: tools/plant %s' % folder
-    if name == 'rule.txt' and reason.startswith('has more'):
+    if name == 'rule.txt' and os.path.exists(os.path.join(folder, 'shared.txt')) and wrong.startswith('is not there'):
+        return 'shared.txt is there, so the rule may stand in it for the program `day`: tools/explain %s --of day. The others want it in rule.txt.' % folder
+    if name == 'rule.txt' and wrong.startswith('has more'):
         return 'a rule has at most 512 bytes, and one line end behind it. Shorten it, or look whether this is another file.'
-    if name == 'plant.txt' and reason.startswith('has more'):
+    if name == 'plant.txt' and wrong.startswith('has more'):
         return 'every plant of the form has at most 2,477 bytes, so this is another file, or something stands behind the plant.'
     return 'put the file there, such that it can be read; tools/plant FOLDER makes plant.txt and rule.txt from a text in names.'
 
