@@ -101,13 +101,13 @@ class Page:
         before = ''
         if len(self.where[k - 1]) <= 8:
             gap = texts.lost(self.events)[k - 1]
-            before = ' Before it%s the plant could be in %s' % (' (and before %s)' % counted(gap, 'lost event') if gap > 0 and k > 1 else '', self.state_names(self.where[k - 1]))
+            before = '<br>Before it%s the plant could be in %s' % (' (and before %s)' % counted(gap, 'lost event') if gap > 0 and k > 1 else '', self.state_names(self.where[k - 1]))
             if not self.where[k]:
                 before += ', and no way from there shows this'
             elif len(self.where[k]) <= 8:
                 before += ', then in %s' % self.state_names(self.where[k])
             before += '.'
-        return '%sSeen: %s.%s' % (restart, self.saw(self.events[k - 1]), before)
+        return '%sSeen: %s%s' % (restart, self.saw(self.events[k - 1]), before)
 
     def outcome(self):
         refused = self.told_refusal() if self.refusal else ''
