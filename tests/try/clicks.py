@@ -3,11 +3,12 @@ import os
 import random
 import sys
 import tempfile
+from types import SimpleNamespace
 
 from browser import Browser, Silent
 from tries import PLANTS, data_of, fail, folder_of, lamps_of, logs_through, oddly_named, page_of, recorded, text_of, watched
 
-from desk import texts
+from desk import texts, words
 from desk.lamps import SIGNS
 
 WAYS = ('unseen', 'on', 'off')
@@ -23,8 +24,8 @@ def ways_of(event, props):
 class Person:
     """Who sits before a page. What is read is what the page shows."""
 
-    def __init__(self, browser, found, address):
-        self.browser, self.found, self.address = browser, found, address
+    def __init__(self, browser, found, address, signals):
+        self.browser, self.found, self.address, self.signals = browser, found, address, signals
 
     def begin(self):
         self.browser.visit(self.address)
@@ -61,6 +62,12 @@ class Person:
     def log(self):
         return self.browser.value('document.querySelector("#log").value')
 
+    def seen(self):
+        """The events that the page writes in names, as tools/plant reads them."""
+        text = self.browser.value('document.querySelector("#seen").value')
+        events = words.read_seen(text, SimpleNamespace(signal=self.signals, state=[]))
+        return [self.found.columns.index((e.see, e.val, int(e.new))) for e in events]
+
     def fits(self):
         """Whether nothing stands beyond the screen's right edge."""
         return self.browser.see('fits()')
@@ -93,7 +100,7 @@ def go_through(person, name, log, lamps, states, way):
     for n, column in enumerate(log):
         way(person.found.columns[column])
         expect(person, name, lamps[:n + 2], states, 'event %d' % n)
-    if person.log() != text_of(person.found, log) or not person.fits():
+    if person.log() != text_of(person.found, log) or person.seen() != log or not person.fits():
         fail('in the browser, %s: the log of the events is another one, or the page is wider than the screen' % name)
 
 
@@ -145,11 +152,13 @@ def try_odd(browser, room):
     folder = oddly_named(room)
     page, address = page_of(folder, room, recorded('turbine')), 'file://%s/page.html' % room
     found, told = data_of(page)
-    person = Person(browser, found, address)
+    person = Person(browser, found, address, told['signals'])
     browser.screen(320, 640, phone=True)
     person.begin()
     person.click((7, 0, 0))
-    shown = [words.split() for words in browser.value('[...document.querySelectorAll("legend")].map(e => e.firstChild.textContent)')]
+    if person.seen() != [found.columns.index((7, 0, 0))]:
+        fail('in the browser, odd names are not written so that they are read back')
+    shown = [text.split() for text in browser.value('[...document.querySelectorAll("legend")].map(e => e.firstChild.textContent)')]
     if shown != [name.split() for name in told['signals']] or browser.value('document.title') == '1' or not person.fits():
         fail('in the browser, odd names are not shown as they are, or do not fit: %s' % shown)
     expect(person, 'odd names', lamps_of(found, [found.columns.index((7, 0, 0))]), told['states'], 'an event')
@@ -175,8 +184,8 @@ def try_page(browser, name, room, pictures):
     page = page_of(folder, room, recorded(name))
     with open(os.path.join(room, name + '.html'), 'w', encoding='utf-8') as file:
         file.write(page)
-    found, table = data_of(page)[0], texts.table_of(folder)
-    person, count = Person(browser, found, address), 0
+    (found, told), table = data_of(page), texts.table_of(folder)
+    person, count = Person(browser, found, address, told['signals']), 0
     by_click = (own(name, found, table), PHONE, False, person.click, lambda button: browser.click('document.querySelector("#%s")' % button))
     by_key = (drawn(found, 7), DESK, True, person.type, lambda button: browser.press(KEYS[button]))
     for log, (wide, high), dark, way, press in (by_click, by_key):

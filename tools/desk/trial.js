@@ -76,6 +76,15 @@
   };
 
   const two = number => number.toString(16).padStart(2, '0');
+  const asLog = e => 'see=' + two(e.see) + ' val=' + two(e.val) + ' new=' + e.restart + '\n';
+
+  // An event as a line of seen.txt: what was on, what was off; `all` where nothing was left out.
+  const inNames = e => {
+    const all = (1 << machine.props) - 1, names = set => machine.quoted.filter((name, p) => set >> p & 1).join(', ');
+    const on = names(e.see & e.val), off = names(e.see & ~e.val);
+    const parts = e.see === all ? ['all', 'on ' + (on || 'nothing')] : [on && 'on ' + on, off && 'off ' + off].filter(part => part);
+    return (e.restart ? ['restart'] : []).concat(parts.length ? parts : ['nothing']).join('; ') + '\n';
+  };
 
   const show = () => {
     let row = 0;
@@ -88,8 +97,10 @@
     at('means').textContent = lampOf(row)[2];
     at('row').textContent = row;
     at('events').replaceChildren(...lines.reverse());
-    at('log').value = taken.map(c => 'see=' + two(columns[c].see) + ' val=' + two(columns[c].val) + ' new=' + columns[c].restart + '\n').join('');
-    at('copied').textContent = '';
+    for (const [id, line] of [['seen', inNames], ['log', asLog]]) {
+      at(id).value = taken.map(c => line(columns[c])).join('');
+      at('copied-' + id).textContent = '';
+    }
     at('undo').setAttribute('aria-disabled', String(!taken.length && !before.length));
     at('over').setAttribute('aria-disabled', String(!taken.length));
     keep();
@@ -118,10 +129,11 @@
   form.addEventListener('submit', press => { press.preventDefault(); take(); });
   at('undo').addEventListener('click', undo);
   at('over').addEventListener('click', startOver);
-  at('copy').addEventListener('click', () => {
-    at('log').select();
-    at('copied').textContent = document.execCommand('copy') ? 'Copied.' : 'Select the lines and copy them.';
-  });
+  for (const id of ['seen', 'log'])
+    at('copy-' + id).addEventListener('click', () => {
+      at(id).select();
+      at('copied-' + id).textContent = document.execCommand('copy') ? 'Copied.' : 'Select the lines and copy them.';
+    });
   addEventListener('hashchange', recall);
   addEventListener('keydown', press => {
     const over = kinds => press.target.closest && press.target.closest(kinds);

@@ -10,6 +10,7 @@ from desk.page import STYLE, Page
 from desk.picture import quote
 from desk.program import Shown
 from desk.trouble import counted
+from desk.words import quoted
 
 # A browser that reads this asks for nothing from elsewhere, whatever stands in the page.
 ALONE = "default-src 'none';style-src 'unsafe-inline';script-src 'unsafe-inline'"
@@ -73,10 +74,10 @@ class Trial:
             '<table class="log"><thead><tr>%s</tr></thead><tbody id="events"></tbody></table>' % head)
 
     def log(self):
-        return folded('These events as a log', '%s%s%s' % (
-            '<p>In a file log.txt beside this plant, <code>watch</code> shows the same lamps for them.</p>',
-            '<textarea id="log" readonly aria-label="the events as lines of a log"></textarea>',
-            '<p><button type="button" id="copy">Copy</button> <span id="copied" role="status"></span></p>'))
+        texts = (('seen', 'In names, for a file seen.txt beside words.txt:', 'the events in names'), ('log', 'As the programs read them, for a file log.txt beside this plant:', 'the events as lines of a log'))
+        return folded('These events as a log', ''.join(
+            '<p>%s</p><textarea id="%s" readonly aria-label="%s"></textarea><p><button type="button" id="copy-%s">Copy</button> <span id="copied-%s" role="status"></span></p>' % (
+                words, name, label, name, name) for name, words, label in texts) + '<p class="soft">With either of them <code>watch</code> shows the same lamps.</p>')
 
     # ---- the machine ----
 
@@ -89,6 +90,6 @@ class Trial:
     def data(self):
         """The machine's bytes, a row a line in hexadecimal digits, and the words for what they say."""
         told = {
-            'props': self.table.props, 'states': self.table.states, 'signals': self.names.signal,
+            'props': self.table.props, 'states': self.table.states, 'signals': self.names.signal, 'quoted': [quoted(name) for name in self.names.signal],
             'verdicts': [[v, SIGNS[v], MEANS[v][0].upper() + MEANS[v][1:] + '.'] for v in VERDICTS], 'rows': [row.hex() for row in self.machine.rows]}
         return '<script type="application/json" id="machine">%s</script>' % json.dumps(told, indent=0).replace('<', '\\u003c')
