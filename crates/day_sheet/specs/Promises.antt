@@ -1,15 +1,16 @@
 -- WHAT IS PROMISED OF NOTING. From what `open` gives and the empty sheet on, whatever events come, the sheet is the one worked out afresh from those that were
--- accepted: `always-afresh`. A refusal changes neither monitor nor sheet: `refused-leaves`. An event is refused by 23 exactly where the sheet worked out afresh with
--- it would have more than 64 lines: `refused-exactly`.
+-- accepted: `always-afresh`. A refusal changes neither monitor nor sheet: `refused-leaves`. An event that 10 and 16 accept is refused by 23 exactly where the sheet
+-- worked out afresh with it would have more than 64 lines: `refused-exactly`.
 use Prim.Native.Nat.{ℕ, zero, suc, _+_, _-_, _^_, _≤_, _<_, zero-le}
 use native.Mathlib.Omega.{arith}
 use native.Mathlib.Decide.{decLt}
 use mathlib.Core.Path.{_≡_, refl, sym, ap, ap₂, subst, _∙_}
+use mathlib.Core.Logic.{_↔_}
 use mathlib.Core.Bool.{Bool, true, false, not, cond, _&&_, _||_, false≢true}
 use mathlib.Core.List.{List, [], _∷_, _++_, map, foldl, foldl-append, append-assoc, append-nil}
 use lib.Dec.{eqb, ltb}
 use lib.ListN.{length, replicate, length-append}
-use borrow.Author.Tests.{ltb-false, eq-eqb, ne-eqb}
+use borrow.Author.Tests.{ltb-false, le-ltb, eq-eqb, ne-eqb, eqb-true}
 use Rattle.meaning.specs.Formula.{Formula}
 use Rattle.meaning.specs.Run as run
 use Rattle.meaning.specs.Event as meaning
@@ -17,12 +18,14 @@ use Rattle.pairs.specs.declared.Pairs.{Pairs}
 use Rattle.model.specs.Sets.{PairSet}
 use Rattle.model.specs.Monitor as model
 use Rattle.model.specs.Rule.{opening-sets}
+use Rattle.answers.specs.declared.Kind.the-variants.{IllegalEvent, Stretches, Number as NumberKind}
 use Rattle.answers.specs.declared.Refusal.{Refusal}
 use Rattle.answers.specs.declared.Lamp.{Lamp}
 use Rattle.answers.specs.declared.Answer.{Answer}
 use Rattle.answers.specs.declared.Answer.the-variants as Answers
 use Rattle.answers.specs.declared.Outcome.{Outcome}
 use Rattle.answers.specs.declared.Outcome.the-variants.{Accepted, Refused}
+use Rattle.answers.specs.Paper.{kindNumber, refusedAt}
 use Rattle.plant.specs.declared.Plant.{Plant}
 use Rattle.plant.specs.Table.{plantOf}
 use Rattle.syntax.specs.declared.Rule.{Rule}
@@ -31,9 +34,9 @@ use Rattle.log.specs.declared.Event.{Event}
 use Rattle.checks.specs.Checks.{inputOutcome}
 use Rattle.checks.specs.Input.{Input}
 use Rattle.sides.specs.declared.Monitor.{Monitor}
-use Rattle.log.specs.Legal.{eventOf}
+use Rattle.log.specs.Legal.{eventOf, legalOf}
 use Rattle.sides.specs.Held.{modelOf, monitorOf}
-use Rattle.event_numbers.specs.Numbers.{numberOf, missingOf, first-none, unseen, brings, InTurn, eventOutcome}
+use Rattle.event_numbers.specs.Numbers.{numberOf, missingOf, first-none, unseen, brings, InTurn, inTurn, eventOutcome}
 use Rattle.monitor.specs.declared.Watched.{Watched}
 use Rattle.monitor.specs.Calls.{watched, openCall, stepCall}
 use Rattle.watching.specs.Filled.{expectedFrom, seenFrom, filledFrom, filled, filled-more, expected-append}
@@ -163,6 +166,34 @@ module _ (T : run.Plant) (f : Formula) (live : List ℕ) where
       quiet : opensOf (d .monitor .seen) false ≡ false
       quiet = ap (λ (b : Bool). opensOf b false) seen
 
+  -- one that begins a stretch adds one line, with all that it brings
+  lines-event : (k from : ℕ) (d : Day) (xs : List Shown) (e : meaning.Event) → d .monitor .seen ≡ some xs → Low xs → (d .monitor .seen ≡ false → k ≡ 0) → from + k < 2 ^ 32
+      → length xs + k < 2 ^ 32 → opensOf (d .monitor .seen) (e .new) ≡ true
+      → length (linesOf (xs ++ shownFrom T f live (d .monitor) (countFrom from (replicate k unseen ++ e ∷ [])))) ≡ length (linesOf xs) + 1
+  unfolding model.stepOf
+  lines-event zero from d xs e seen low none high few begins = lines-grow d (record { number = from; event = e }) xs seen low begins
+  lines-event (suc k) from d xs e seen low none high few begins =
+      ap (λ (l : List Shown). length (linesOf l)) (sym (append-assoc xs (z ∷ []) rest))
+      ∙ lines-event k (from + 1) (noteStep T f live d x) (xs ++ z ∷ []) e (sym (some-more xs z)) (low-more xs z low (omega arith)) (λ other. absurd (false≢true (sym other)))
+      (omega arith) (omega (arith, length-append xs (z ∷ []))) (sym (ap (λ (b : Bool). opensOf b (e .new)) came) ∙ begins)
+      ∙ ap (λ (n : ℕ). n + 1) (lines-stay d x xs seen low (omega arith) (ap (λ (b : Bool). opensOf b false) came))
+    where
+      x : Numbered
+      x = record { number = from; event = unseen }
+
+      z : Shown
+      z = shownAt T f live (d .monitor) x
+
+      rest : List Shown
+      rest = shownFrom T f live (model.stepOf T f live (d .monitor) unseen) (countFrom (from + 1) (replicate k unseen ++ e ∷ []))
+
+      by : (b : Bool) → d .monitor .seen ≡ b → d .monitor .seen ≡ true
+      by true e = e
+      by false e = absurd (let h = none e in omega arith)
+
+      came : d .monitor .seen ≡ true
+      came = by (d .monitor .seen) refl
+
   -- ---- lists
 
   shown-append : (m : model.Monitor) (ns ms : List Numbered) → shownFrom T f live m (ns ++ ms) ≡ shownFrom T f live m ns ++ shownFrom T f live (foldl (λ m (x : Numbered). step m (x .event)) m ns) ms
@@ -199,6 +230,24 @@ numbered-append seen n (x ∷ es) e =
 length-same : {B : Type 0} (k : ℕ) (u : B) → length (replicate k u) ≡ k
 length-same zero u = refl
 length-same (suc k) u = ap suc (length-same k u)
+
+-- neither 10 nor 16 is 23
+abbrev refusedIn : Answer → Outcome
+refusedIn (Answers.Shown l) = Accepted
+refusedIn (Answers.Refused r) = Refused r
+
+abbrev codeOf : Outcome → ℕ
+codeOf Accepted = 0
+codeOf (Refused r) = kindNumber (r .kind)
+
+not-23 : (e : Event) (props : ℕ) (seen : Bool) (expected : ℕ) → eventOutcome e props seen expected ≡ Refused (refusedAt Stretches 0) → ⊥
+unfolding eventOutcome
+not-23 e props seen expected g = by (legalOf e props) (inTurn seen expected (numberOf (e .num) expected)) (ap codeOf g)
+  where
+    by : (b c : Bool) → codeOf (cond b (cond c Accepted (Refused (refusedAt NumberKind 0))) (Refused (refusedAt IllegalEvent 0))) ≡ 23 → ⊥
+    by true true h = omega (arith, h)
+    by true false h = omega (arith, h)
+    by false c h = omega (arith, h)
 
 module _ (p : Plant) (fair label next : List ℕ) (rule : Rule) (known : Pairs) where
   abbrev table : run.Plant
@@ -297,7 +346,7 @@ module _ (p : Plant) (fair label next : List ℕ) (rule : Rule) (known : Pairs) 
       came [] = refl
       came (e ∷ es) = refl
 
-  expected-low : (seen : Bool) (n : ℕ) (es : List Event) → n ≤ 2 ^ 32 → TakenFrom p fair label next rule seen n es → expectedFrom n es ≤ 2 ^ 32
+  pub expected-low : (seen : Bool) (n : ℕ) (es : List Event) → n ≤ 2 ^ 32 → TakenFrom p fair label next rule seen n es → expectedFrom n es ≤ 2 ^ 32
   expected-low seen n [] low ts = low
   expected-low seen n (e ∷ es) low (t, ts) = expected-low true (numberOf (e .num) n + 1) es (omega (arith, t .1 .number)) ts
 
@@ -319,6 +368,15 @@ module _ (p : Plant) (fair label next : List ℕ) (rule : Rule) (known : Pairs) 
   full-is : (s : DaySheet) (seen new : Bool) → (eqb (s .count) 64 && opensOf seen new) ≡ isFull s seen new
   unfolding isFull
   full-is s seen new = refl
+
+  -- a sheet with no room has 64 lines, and the event begins a stretch
+  room-none : (s : DaySheet) (seen new : Bool) → isFull s seen new ≡ true → (s .count ≡ 64) × (opensOf seen new ≡ true)
+  unfolding isFull
+  room-none s seen new h = by (eqb (s .count) 64) refl h
+    where
+      by : (b : Bool) → eqb (s .count) 64 ≡ b → (b && opensOf seen new) ≡ true → (s .count ≡ 64) × (opensOf seen new ≡ true)
+      by true e h = (eqb-true (s .count) 64 e, h)
+      by false e h = absurd (false≢true h)
 
   none-some : (xs : List Shown) → some xs ≡ false → length xs ≡ 0
   none-some [] e = refl
@@ -419,12 +477,74 @@ module _ (p : Plant) (fair label next : List ℕ) (rule : Rule) (known : Pairs) 
               notes-event table formula (known .words) gap (numberOf (e .num) n - gap) (record { monitor = x; sheet = linesAfter done }) xs (eventOf e) fine
               (first-none (x .seen) n (numberOf (e .num) n)) (omega arith) (counts .0) (space-left (length (linesOf xs)) (opensOf (x .seen) (e .new)) (full-is (linesAfter done) (x .seen) (e .new) ∙ a .room) (k .room))
 
+      -- ---- by what the check of the event gives
+
+      abbrev stepped : Outcome → Watched
+      stepped o = watched o here (numberOf (e .num) n + 1) (brought p fair label next rule (known .words) x n e)
+
+      abbrev taking : Outcome → Bool → Noted
+      taking o b = noteBy (stepped o) (stepped o .answer) b here (linesAfter done) (λ v. sheetAfter table formula (known .words) here (linesAfter done) e)
+
+      note-by : {o : Outcome} → eventOutcome e (p .props) (x .seen) n ≡ o → {b : Bool} → isFull (linesAfter done) (x .seen) (e .new) ≡ b → note here (linesAfter done) e ≡ taking o b
+      unfolding notedOf
+      note-by {o} g {b} h =
+          ap (λ (many : Bool). cond many (refusedWith (overfullBy (inputOutcome p fair label next rule)) here (linesAfter done))
+          (behind (stepCall p fair label next rule known here e) (isFull (linesAfter done) (x .seen) (e .new)))) (le-ltb 64 (length (linesOf xs)) (k .room))
+          ∙ ap₂ behind (checks-pass p fair label next rule given known fits here (ran-held done (k .taken)) e ∙ ap stepped g) h
+        where
+          behind : Watched → Bool → Noted
+          behind w b = noteBy w (w .answer) b here (linesAfter done) (λ v. sheetAfter table formula (known .words) here (linesAfter done) e)
+
+      -- 23 is for an event that was accepted, and finds no room
+      full-exactly : (note here (linesAfter done) e .answer ≡ Answers.Refused (refusedAt Stretches 0))
+          ↔ (Taken p fair label next rule (x .seen) n e × (64 < length (afresh table formula (known .words) (done ++ e ∷ []))))
+      full-exactly = (λ g. there (eventOutcome e (p .props) (x .seen) n) refl _ refl g, λ (t, many). back t many _ refl)
+        where
+          answered : {o : Outcome} → eventOutcome e (p .props) (x .seen) n ≡ o → {b : Bool} → isFull (linesAfter done) (x .seen) (e .new) ≡ b → note here (linesAfter done) e .answer ≡ taking o b .answer
+          answered g h = ap (λ (w : Noted). w .answer) (note-by g h)
+
+          -- with it there would be a line more
+          over : Taken p fair label next rule (x .seen) n e → isFull (linesAfter done) (x .seen) (e .new) ≡ true → 64 < length (afresh table formula (known .words) (done ++ e ∷ []))
+          over t h =
+              let gap = missingOf (x .seen) n (numberOf (e .num) n) in
+              let counts = count-next (x .seen) n (numberOf (e .num) n) (length xs) (λ none. none-some xs (sym (fine .seen) ∙ none)) (k .few) (t .1) in
+              let short = missing-few (x .seen) n (numberOf (e .num) n) in
+              let (full, opens) = room-none (linesAfter done) (x .seen) (e .new) h in
+              let grown = lines-event table formula (known .words) gap (numberOf (e .num) n - gap) (record { monitor = x; sheet = linesAfter done }) xs (eventOf e) (fine .seen) (k .low)
+              (first-none (x .seen) n (numberOf (e .num) n)) (omega (arith, t .1 .number)) (counts .0) opens in
+              omega (arith, ap (λ (ys : List Shown). length (linesOf ys)) (shown-more done e), grown, full)
+
+          there : (o : Outcome) → eventOutcome e (p .props) (x .seen) n ≡ o → (b : Bool) → isFull (linesAfter done) (x .seen) (e .new) ≡ b → note here (linesAfter done) e .answer ≡ Answers.Refused (refusedAt Stretches 0)
+              → Taken p fair label next rule (x .seen) n e × (64 < length (afresh table formula (known .words) (done ++ e ∷ [])))
+          there (Refused r) o b h g = absurd (not-23 e (p .props) (x .seen) n (o ∙ ap refusedIn (sym (answered o h) ∙ g)))
+          there Accepted o true h g = let t = event-says p fair label next rule given e (x .seen) n .0 o in (t, over t h)
+          there Accepted o false h g = shown-none (sym g ∙ answered o h)
+
+          back : Taken p fair label next rule (x .seen) n e → 64 < length (afresh table formula (known .words) (done ++ e ∷ [])) → (b : Bool) → isFull (linesAfter done) (x .seen) (e .new) ≡ b
+              → note here (linesAfter done) e .answer ≡ Answers.Refused (refusedAt Stretches 0)
+          back t many true h = answered (event-says p fair label next rule given e (x .seen) n .1 t) h
+          back t many false h = absurd (let room = next-exact _ (answered (event-says p fair label next rule given e (x .seen) n .1 t) h) .room in omega arith)
+
     -- ONE EVENT MORE, noted, is the sheet of one event more
     pub one-more : (done : List Event) (m : Monitor) (s : DaySheet) → Kept done m s → (e : Event) (l : Lamp) → note m s e .answer ≡ Answers.Shown l → Kept (done ++ e ∷ []) (note m s e .monitor) (note m s e .sheet)
     one-more done m s k e l =
         subst (λ (w : Monitor). note w s e .answer ≡ Answers.Shown l → Kept (done ++ e ∷ []) (note w s e .monitor) (note w s e .sheet)) (sym (k .monitor))
         (subst (λ (d : DaySheet). note (monitorOf (expectedFrom 0 done) (ran done)) d e .answer ≡ Answers.Shown l → Kept (done ++ e ∷ []) (note (monitorOf (expectedFrom 0 done) (ran done)) d e .monitor) (note (monitorOf (expectedFrom 0 done) (ran done)) d e .sheet)) (sym (k .sheet))
         (next-exact done (record { taken = k .taken; monitor = refl; sheet = refl; low = k .low; few = k .few; room = k .room }) e l))
+
+    -- AN EVENT IS REFUSED BY 23 exactly where 10 and 16 accept it, and the sheet worked out afresh with it would have more than 64 lines
+    pub refused-exactly : (done : List Event) (m : Monitor) (s : DaySheet) → Kept done m s → (e : Event)
+        → (note m s e .answer ≡ Answers.Refused (refusedAt Stretches 0))
+        ↔ (Taken p fair label next rule (seenFrom false done) (expectedFrom 0 done) e × (64 < length (afresh table formula (known .words) (done ++ e ∷ []))))
+    refused-exactly done m s k e =
+        subst (λ (w : Monitor). Exactly w s) (sym (k .monitor)) (subst (λ (d : DaySheet). Exactly (monitorOf (expectedFrom 0 done) (ran done)) d) (sym (k .sheet))
+        (subst (λ (b : Bool). (note (monitorOf (expectedFrom 0 done) (ran done)) (linesAfter done) e .answer ≡ Answers.Refused (refusedAt Stretches 0))
+        ↔ (Taken p fair label next rule b (expectedFrom 0 done) e × (64 < length (afresh table formula (known .words) (done ++ e ∷ []))))) (run-seen p fair label next rule (known .words) done)
+        (full-exactly done (record { taken = k .taken; monitor = refl; sheet = refl; low = k .low; few = k .few; room = k .room }) e)))
+      where
+        Exactly : Monitor → DaySheet → Type 0
+        Exactly w d = (note w d e .answer ≡ Answers.Refused (refusedAt Stretches 0))
+            ↔ (Taken p fair label next rule (seenFrom false done) (expectedFrom 0 done) e × (64 < length (afresh table formula (known .words) (done ++ e ∷ []))))
 
   -- ---- whatever events come
 
