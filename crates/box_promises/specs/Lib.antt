@@ -1,3 +1,4 @@
 pub mod Typed
 pub mod Promises
 pub mod Beside
+pub mod Days

@@ -28,6 +28,7 @@ use Rattle.syntax.specs.declared.Rule.{Rule}
 use Rattle.rule_text.specs.Reading.{ruleRead}
 use Rattle.log.specs.declared.Event.{Event}
 use Rattle.checks.specs.Checks.{inputOutcome}
+use Rattle.checks.specs.Input.{Input}
 use Rattle.syntax.specs.Value.{formulaOf}
 use Rattle.sides.specs.declared.Monitor.{Monitor}
 use Rattle.sides.specs.Held.{modelOf, monitorOf, lampIn}
@@ -175,13 +176,14 @@ module _ (w : List ℕ) (e : Event) where
 
 -- ---- from the texts on
 
--- what was opened is what `prepare` and `open` give, and its lamp is the one that `open` shows
-record Begun (o : Opened) : Type 0 where
-  live : o .live ≡ preparedOf (o .table .plant) (fairIn (o .table)) (labelIn (o .table)) (nextIn (o .table)) (o .rule) .live
-  monitor : o .monitor ≡ openCall (o .table .plant) (fairIn (o .table)) (labelIn (o .table)) (nextIn (o .table)) (o .rule) (o .live) .monitor
-  lamp : shownAs (openedShown o) ≡ shownAs (openCall (o .table .plant) (fairIn (o .table)) (labelIn (o .table)) (nextIn (o .table)) (o .rule) (o .live) .answer)
+-- what was opened is an accepted table and rule, and what `prepare` and `open` give; its lamp is the one that `open` shows
+pub record Begun (o : Opened) : Type 0 where
+  pub given : Input (o .table .plant) (fairIn (o .table)) (labelIn (o .table)) (nextIn (o .table)) (o .rule)
+  pub live : o .live ≡ preparedOf (o .table .plant) (fairIn (o .table)) (labelIn (o .table)) (nextIn (o .table)) (o .rule) .live
+  pub monitor : o .monitor ≡ openCall (o .table .plant) (fairIn (o .table)) (labelIn (o .table)) (nextIn (o .table)) (o .rule) (o .live) .monitor
+  pub lamp : shownAs (openedShown o) ≡ shownAs (openCall (o .table .plant) (fairIn (o .table)) (labelIn (o .table)) (nextIn (o .table)) (o .rule) (o .live) .answer)
 
-abbrev BegunIfOpened : Opened → Type 0
+abbrev pub BegunIfOpened : Opened → Type 0
 BegunIfOpened o = o .outcome ≡ Accepted → Begun o
 
 begun-by : (o : Outcome) (x : Opened) → (o ≡ Accepted → BegunIfOpened x) → BegunIfOpened (orRefused o x)
@@ -195,12 +197,13 @@ rule-begun t rule full =
     begun-by (prepared .outcome) (made t rule (prepared .live) (openCall (t .plant) (fairIn t) (labelIn t) (nextIn t) rule (prepared .live) .monitor))
     (λ ok _. let given = prepare-accepted (t .plant) (fairIn t) (labelIn t) (nextIn t) rule full .0 ok in
     record {
+      given = given;
       live = refl;
       monitor = refl;
       lamp = rw (opens (t .plant) (fairIn t) (labelIn t) (nextIn t) rule given (prepared .live) (live-fits (t .plant) (fairIn t) (labelIn t) (nextIn t) rule given)) refl;
     })
 
-opened-begun : (table rule : List ℕ) → BegunIfOpened (openedOf table rule)
+pub opened-begun : (table rule : List ℕ) → BegunIfOpened (openedOf table rule)
 unfolding openedOf partsOpened
 opened-begun table rule =
     let t = tableRead table .table in
