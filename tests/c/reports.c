@@ -142,10 +142,37 @@ static void spoilt(void)
     claim(is(judged(0, &keeps, &long_), 0, JUG_AGREEMENT, 2, JUG_WRONG_RUN), "one of 4,096 is looked at");
 }
 
+/* The same plant with a fairness set, state 2: a run has to come there again and again. Then restarts, and a log that is longer than the run. */
+static void spoilt_elsewhere(void)
+{
+    uint64_t fair[1] = { 4 }, next[3] = { 3, 6, 5 };
+    uint16_t label[3] = { 0, 1, 2 };
+    run keeps = { { 0, 1, 2, 0, 1 }, 2, 3 }, breaks = { { 0, 1 }, 1, 1 }, x;
+    table_len = jug_write_table(2, 3, 1, 1, fair, 1, label, 3, next, 3, table, sizeof table).count;
+    claim(is(judged(0, &keeps, &breaks), 0, JUG_FAIRNESS, 2, JUG_WRONG_RUN), "a loop that misses a fairness set");
+    claim(is(judged(1, &keeps, &breaks), 0, 0, 0, JUG_ACCEPTED), "so all runs keep the rule, and the other one is not looked at");
+    x = breaks, x.stem = 2, x.loop = 0;
+    claim(is(judged(2, &none, &x), 0, JUG_MOVES, 2, JUG_WRONG_RUN), "moves come before fairness");
+    x = breaks, x.states[1] = 0;
+    claim(is(judged(2, &none, &x), 0, JUG_FAIRNESS, 2, JUG_WRONG_RUN), "and fairness before agreement");
+    table_len = sizeof W - 1;
+    memcpy(table, W, table_len);
+    rule = "p0";
+    strcpy(log_text, "see=03 val=00 new=0\nsee=01 val=01 new=1\n");
+    claim(is(judged(1, &keeps, &none), 0, 0, 0, JUG_ACCEPTED), "the rule is judged at the restart");
+    claim(is(judged(2, &none, &keeps), 0, JUG_VALUE, 2, JUG_WRONG_RUN), "and not at position 0, where it is broken");
+    rule = "Fp1";
+    strcpy(log_text, "see=03 val=00 new=0\nsee=01 val=01 new=0\nsee=00 val=00 new=0\nsee=00 val=00 new=0\nsee=00 val=00 new=0\nsee=02 val=02 new=0\n");
+    claim(is(judged(1, &keeps, &none), 0, 0, 0, JUG_ACCEPTED), "position 5 is round the loop, at its first state");
+    strcpy(log_text, "see=03 val=00 new=0\nsee=01 val=01 new=0\nsee=00 val=00 new=0\nsee=00 val=00 new=0\nsee=00 val=00 new=0\nsee=02 val=00 new=0\n");
+    claim(is(judged(0, &keeps, &breaks), 0, JUG_AGREEMENT, 1, JUG_WRONG_RUN), "and there too it has to be as was seen");
+}
+
 int main(void)
 {
     at = "a report";
     spoilt();
+    spoilt_elsewhere();
     own_reports(2000);
     return told("reports judged");
 }
