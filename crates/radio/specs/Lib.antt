@@ -4,3 +4,4 @@ pub mod Kept
 pub mod Laws
 pub mod Turning
 pub mod Ending
+pub mod Quiet

@@ -182,8 +182,8 @@ fn pieces(
     Went { radio: now, done }
 }
 
-// A scrap heard from a radio on, of an accepted table and rule, with a live set and a monitor of theirs.
-pub fn listen(
+// A scrap that ends lines: what the rule says is worked out, once for all of them.
+fn hear_lines(
     plant: Plant,
     fair: &[u64],
     label: &[u16],
@@ -201,4 +201,39 @@ pub fn listen(
     let ways = ways::ways_of(label, rule);
     let clean = radio.clean();
     pieces(plant, label, next, ways, live, clean, scrap, verdicts)
+}
+
+// A scrap heard from a radio on, of an accepted table and rule, with a live set and a monitor of theirs. One that ends no line is a single piece; no event is
+// taken, so nothing that the rule says is asked, and it costs little.
+pub fn listen(
+    plant: Plant,
+    fair: &[u64],
+    label: &[u16],
+    next: &[u64],
+    rule: Rule,
+    live: Pairs,
+    radio: Radio,
+    scrap: &[u8],
+    verdicts: &mut [u8],
+) -> Went
+    requires { ⌜ Fitting plant (now fair) (now label) (now next) rule live (radio .monitor) × Fit (widthOf (plant .props)) radio (length (now scrap)) ⌝ }
+    ensures { λ r. ⌜ Listened (hearAll (widthOf (plant .props)) (stepCall plant (now (fair .entry)) (now (label .entry)) (now (next .entry)) rule live) (heardBy radio []) (now (scrap .entry)))
+        (now (verdicts .entry)) (now (verdicts .exit)) r ⌝ }
+{
+    let clean = radio.clean();
+    if scrap.len() == 0 {
+        return Went {
+            radio: clean,
+            done: 0,
+        };
+    }
+    let first = piece(clean, scrap, plant.props);
+    if first.whole | (first.took < scrap.len()) {
+        return hear_lines(plant, fair, label, next, rule, live, radio, scrap, verdicts);
+    }
+    let behind = first.radio;
+    Went {
+        radio: behind,
+        done: 0,
+    }
 }

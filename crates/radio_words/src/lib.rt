@@ -10,10 +10,10 @@ ghost use mathlib.Core.Path.{_≡_};
 ghost use Prim.Native.Nat.{_+_, _<_};
 ghost use Rattle.radio_words.specs.Words.{byteIn, partIn, formIn, standingIn, radioIn, canStand, packedAt, formCode, standingCode, standingPlace, radioWord, changedWord, withRadio};
 
-// A byte of the part.
-fn byte_in(words: [u64; 384], at: usize) -> u8
+// A byte of the part. The words are lent: handed over by value they would be copied for each byte.
+fn byte_in(words: &[u64; 384], at: usize) -> u8
     requires { ⌜ at < 40 ⌝ }
-    ensures { λ r. ⌜ r ≡ byteIn words at ⌝ }
+    ensures { λ r. ⌜ r ≡ byteIn (now (words .entry)) at ⌝ }
 {
     let word = words[363 + at / 8];
     ((word / words::single(8 * (at % 8))) % 256) as u8
@@ -24,7 +24,7 @@ fn part_in(words: [u64; 384]) -> [u8; 40]
 {
     let mut part = [0u8; 40];
     for at in 0..40 {
-        part[at] = byte_in(words, at);
+        part[at] = byte_in(&words, at);
     }
     part
 }

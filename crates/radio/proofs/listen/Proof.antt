@@ -1,39 +1,41 @@
--- `listen`: what the rule says, worked out once, and then the pieces. Assumes nothing.
+-- `listen`: a scrap that ends no line is one piece, and any other is heard by its lines. Assumes nothing.
 use borrow.Author.Needs.{needs}
-use Rattle.syntax.proofs.Held.{full}
-use Rattle.ways.specs.Ways.{few-ways}
-use Rattle.text.specs.Number.{widthOf}
-use Rattle.course.specs.CourseRight.{fitting-ready}
-use Rattle.radio.specs.Ending.{clean-ear, clean-clean, clean-fit, listened}
+use native.Mathlib.Omega.{arith}
+use Rattle.text.specs.Number.{widthOf, width-between}
+use Rattle.monitor.specs.Calls.{stepCall}
+use Rattle.radio.specs.Ending.{clean-fit}
+use Rattle.radio.specs.Quiet.{quiet-none, quiet-piece}
 use Rattle.radio.proofs.listen.Statement.{statement}
 use Rattle.radio.proofs.listen.Tie as tie
 
-ways-of-requires : tie.Need-ways-of-requires
-ways-of-requires c κs =
-    let start = c .before .before .before .before .before in
-    let a = start .args in
-    fitting-ready (a .plant) (a .fair .now) (a .label .now) (a .next .now) (a .rule) (full (a .rule .nodes) (start .good .1 .1 .1 .1 .0 .1 .1 .1 .0)) (start .pre .0)
-
 clean-requires : tie.Need-clean-requires
-clean-requires c κs = let start = c .before .before .before .before .before .before in start .pre .1 .room
-
-pieces-requires : tie.Need-pieces-requires
-pieces-requires c κs =
-    let told = c .before .before in
-    let start = told .before .before .before .before .before .before in
-    let a = start .args in
-    let ok = fitting-ready (a .plant) (a .fair .now) (a .label .now) (a .next .now) (a .rule) (full (a .rule .nodes) (start .good .1 .1 .1 .1 .0 .1 .1 .1 .0)) (start .pre .0) in
-    (ok .labels, rw (told .ways-of .ensures) (few-ways ok), clean-fit _ (start .pre .1) (c .before .clean .ensures), clean-clean _ (start .pre .1) (c .before .clean .ensures))
+clean-requires c κs = let start = c .before .before .before .before .before in start .pre .1 .room
 
 returns : tie.Need-returns
 returns c =
-    let heard = c .before .before in
-    let made = heard .before .before in
-    let told = made .before in
-    let start = told .before .before .before .before .before .before in
+    let made = c .before in
+    let start = made .before .before .before .before .before .before in
     let a = start .args in
-    listened (a .plant) (a .fair .now) (a .label .now) (a .next .now) (a .rule) (full (a .rule .nodes) (start .good .1 .1 .1 .1 .0 .1 .1 .1 .0)) (a .radio) (start .pre .0)
-    (told .ways-of .ensures) (widthOf (a .plant .props)) (made .clean .result) (clean-ear _ (start .pre .1) (made .clean .ensures)) (a .scrap .now) (heard .pieces .ensures)
+    quiet-none (widthOf (a .plant .props)) (stepCall (a .plant) (a .fair .now) (a .label .now) (a .next .now) (a .rule) (a .live)) (width-between (a .plant .props) .1) (a .scrap .now)
+    (start .pre .1) (made .clean .ensures) (a .verdicts .now) (c .if1 .taken)
+
+piece-requires : tie.Need-piece-requires
+piece-requires c κs =
+    let made = c .before in
+    let start = made .before .before .before .before .before .before in
+    (clean-fit _ (start .pre .1) (made .clean .ensures), omega (arith, c .if1 .left))
+
+returns-2 : tie.Need-returns-2
+returns-2 c = c .before .before .hear-lines .ensures
+
+returns-3 : tie.Need-returns-3
+returns-3 c =
+    let read = c .before .before .before .before in
+    let made = read .before .before in
+    let start = made .before .before .before .before .before .before in
+    let a = start .args in
+    quiet-piece (widthOf (a .plant .props)) (stepCall (a .plant) (a .fair .now) (a .label .now) (a .next .now) (a .rule) (a .live)) (width-between (a .plant .props) .1) (a .scrap .now)
+    (start .pre .1) (made .clean .ensures) (a .verdicts .now) (omega (arith, read .before .if1 .left)) (read .piece .ensures) (c .before .if2 .left)
 
 pub listen-spec : {M : Type 1} → statement M
-listen-spec = tie.close (tie.spec ways-of-requires clean-requires pieces-requires (λ c. search needs) returns)
+listen-spec = tie.close (tie.spec clean-requires returns piece-requires (λ c κs. search needs) (λ c. search needs) returns-2 returns-3)

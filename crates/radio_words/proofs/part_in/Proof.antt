@@ -21,7 +21,7 @@ unfolding filled
 loop-holds c = (zero-le, refl)
 
 loop-again : tie.Need-loop-again Inv-loop μ-loop
-loop-again c = (omega arith, filled-turn _ _ _ _ _ (c .before .before .loop .inv .1) (c .byte-in .ensures))
+loop-again c = (omega arith, filled-turn _ _ _ _ _ (c .before .before .before .loop .inv .1) (c .byte-in .ensures))
 
 returns : tie.Need-returns Inv-loop μ-loop
 unfolding partIn
