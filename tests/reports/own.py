@@ -1,4 +1,4 @@
-"""What tools/report writes of the worked plants and of thrown ones: the program `judge` accepts each. And what the tool says of reports that are wrong, or no reports."""
+"""What tools/report writes of the worked plants and of thrown ones: the program `judge` accepts each. Where the log is refused, there is none."""
 import glob
 import os
 import shutil
@@ -10,6 +10,8 @@ HOME = os.path.dirname(os.path.dirname(os.path.dirname(os.path.abspath(__file__)
 sys.path.insert(0, os.path.join(HOME, 'tests', 'plant'))
 
 import thrown
+
+from desk import program
 
 
 def tool(*words):
@@ -32,18 +34,10 @@ def own(folder):
     if status or wrong:
         fail('tools/report %s: %s' % (folder, wrong))
     put(folder, 'report.txt', text)
-    status, said, _ = tool(folder, '--check')
-    if (status, said) != (0, 'accepted: the report is right\n'):
+    said = program.run('judge', folder)
+    if said != 'accepted: the report is right\n':
         fail('our own report on %s is answered so: %s%s' % (folder, said, text[:2000]))
     return text.split('\n', 1)[0]
-
-
-def says(folder, report, *wanted):
-    """A report that is not right: the tool says so, in these words among others."""
-    put(folder, 'report.txt', report)
-    status, said, wrong = tool(folder, '--check')
-    if status != 1 or wrong or not all(words in said for words in wanted):
-        fail('tools/report --check says of %r:\n%s%s' % (report, said, wrong))
 
 
 def guide(report):
@@ -73,22 +67,7 @@ def main():
             fail('not every verdict is claimed: %s' % claims)
         here = os.path.join(room, 'wrong')
         shutil.copytree(os.path.join(HOME, 'tests', 'reports', 'data', 'right'), here)
-        runs = 'keeps stem=0,1 loop=2,0,1\nbreaks stem=0 loop=1\n'
-        says(here, 'claim=true\n' + runs, 'wrong verdict')
-        says(here, 'claim=inconclusive\nkeeps stem= loop=2,0,1\n', 'wrong run: the one that keeps the rule fails start')
-        says(here, 'claim=maybe\n' + runs, 'byte 6', 'line 1, column 7', '    claim=maybe\n          ^', '`out-of-model`')
-        says(here, 'claim=inconclusive\nkeeps stem=0;1 loop=1\n', 'byte 31', 'line 2, column 13', 'decimal with commas')
-        says(here, 'claim=true\r\n', 'byte 10', 'Windows')
-        says(here, 'claim=true', 'byte 10', 'stops too soon')
-        says(here, 'claim=true\nkeeps stem=%s loop=0\n' % ','.join(['0'] * 4096), 'Refusal 22', '4,096 states')
-        says(here, 'x' * 65537, 'Refusal 14', 'report.txt has more than the 65,536 bytes')
         put(here, 'log.txt', 'see=03')
-        says(here, 'claim=true\n', 'Refusal 12 at byte 6', 'log.txt, line 1')
-        os.remove(os.path.join(here, 'report.txt'))
-        os.mkdir(os.path.join(here, 'report.txt'))
-        status, said, _ = tool(here, '--check')
-        if status != 1 or 'report.txt is a folder' not in said:
-            fail('a folder in the place of report.txt is told so: %s' % said)
         status, said, wrong = tool(here)
         if status == 0 or said or 'Refusal 12' not in wrong:
             fail('of a log that is refused there is no report: %s%s' % (said, wrong))
