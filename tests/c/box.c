@@ -85,6 +85,32 @@ static void numbers(void)
     claim(jug_step_numbered(&one, 117, 0, 0, 0).number == 0, "16 missing are not");
 }
 
+/* ---- whole logs that are refused: by which number first, where, and what is written */
+
+#define LINE "see=03 val=00 new=0\n"
+#define BAD "see=04 val=00 new=0\n"
+
+static void refused_logs(void)
+{
+    uint8_t bytes[8], old[8];
+    at = "refused logs";
+    memset(bytes, 0xee, sizeof bytes);
+    memcpy(old, bytes, sizeof old);
+    claim(is(jug_watch_log(TEXT("props=9\n"), TEXT(""), TEXT("s"), bytes, 0), 3, 8, 0, 0), "the table is looked at first");
+    claim(is(jug_watch_log(TEXT(W), TEXT("p0\n"), TEXT("s"), bytes, 0), 5, 2, 0, 0), "then the rule, of which no line end is dropped");
+    claim(is(jug_watch_log(TEXT(W), TEXT("Fp1"), TEXT(LINE LINE "see=03 val=00 new=2\n"), bytes, 0), 12, 58, 0, 0), "then the log's form, and after it the room");
+    claim(is(jug_watch_log(TEXT(W), TEXT("Fp1"), TEXT(LINE BAD), bytes, 1), 11, 0, 0, 0), "then the room, before any event");
+    claim(!memcmp(bytes, old, sizeof bytes), "all of these write nothing");
+    claim(is(jug_watch_log(TEXT(W), TEXT("Fp1"), TEXT(BAD LINE), bytes, 8), 10, 0, 0, 0), "the first event is refused at 0, behind none");
+    claim(!memcmp(bytes, old, sizeof bytes), "and has no byte before it");
+    claim(is(jug_watch_log(TEXT(W), TEXT("Fp1"), TEXT(LINE LINE BAD LINE), bytes, 8), 10, 40, 2, 0), "event 2 is refused at its line, behind two");
+    claim(bytes[0] == JUG_INCONCLUSIVE && bytes[1] == JUG_INCONCLUSIVE && !memcmp(bytes + 2, old, 6), "the two have their bytes, and the rest stays");
+    memset(bytes, 0xee, sizeof bytes);
+    claim(is(jug_watch_log(TEXT(W), TEXT("Fp1"), TEXT("num=00000007 " LINE "num=00000009 " LINE "num=00000009 " LINE), bytes, 8), 16, 66, 2, 0), "a number that comes again is 16, and what was lost is not counted");
+    claim(bytes[1] != 0xee && !memcmp(bytes + 2, old, 6), "nor has it a byte");
+    claim(is(jug_watch_log(TEXT(W), TEXT("Fp1"), TEXT(""), bytes, 0), 0, 0, 0, 0), "a log of no line asks for no byte");
+}
+
 /* ---- whatever stands in a box, each call answers, and what it refuses it leaves */
 
 static void any_box(void)
@@ -194,6 +220,7 @@ int main(int argc, char **argv)
 {
     small_plant();
     numbers();
+    refused_logs();
     any_box();
     for (int i = 1; i < argc; i++)
         worked_plant(argv[i]);

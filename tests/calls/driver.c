@@ -57,6 +57,17 @@ static void tell_bytes(bytes b)
 
 /* ---- the functions, by name */
 
+static void whole(void)
+{
+    bytes table = text(), rule = text(), log = text(), verdicts = text();
+    tell(jug_watch_log(table.at, table.len, rule.at, rule.len, log.at, log.len, verdicts.at, verdicts.len));
+    tell_bytes(verdicts);
+    free(table.at);
+    free(rule.at);
+    free(log.at);
+    free(verdicts.at);
+}
+
 static void write_table(void)
 {
     uint64_t props = number(), states = number(), start = number(), just = number();
@@ -248,6 +259,7 @@ static const struct {
     const char *name;
     void (*call)(void);
 } functions[] = {
+    { "whole", whole },
     { "write_table", write_table },
     { "setting", setting },
     { "store", store },

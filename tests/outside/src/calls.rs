@@ -10,12 +10,14 @@ use crate::sheets;
 use crate::closing;
 use crate::machines;
 use crate::tables;
+use crate::whole;
 
 /// Draws a case: what is asked, and the answer, with a mistake where one is planted. What is drawn does not go by the mistake.
 pub type Asked = fn(&mut Dice) -> (String, String);
 
 /// Each function by its name in the driver, with the mistakes that its cases must find, and how many cases of a thousand it has.
 pub const ALL: &[(&str, Asked, &[&[Planted]], usize)] = &[
+    ("whole", whole::asked, &[faults::OF_WHOLE], 1000),
     ("write_table", tables::asked, &[faults::OF_TABLES, faults::OF_WRITING], 250),
     ("setting", sheets::asked, &[faults::OF_SHEETS], 1000),
     ("store", sheets::stored, &[faults::OF_STORES], 250),

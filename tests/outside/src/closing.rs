@@ -185,7 +185,8 @@ pub fn asked(dice: &mut Dice) -> (String, String) {
     (format!("{} {} {} {}", hex(table), hex(rule), hex(log), edition), four(number, place, count, value))
 }
 
-fn draw(dice: &mut Dice) -> (Plant, String, Vec<Event>) {
+/// A small plant, a rule, and events along a walk.
+pub fn draw(dice: &mut Dice) -> (Plant, String, Vec<Event>) {
     let states = *dice.pick(&[2, 3, 4, 6]);
     let plant = cases::plant(dice, states);
     let parts = *dice.pick(&[1, 2, 3, 4]);

@@ -211,6 +211,20 @@ OF_CLOSING {
     ClosingPlaceZero: "an event is refused at place 0 at a day's end",
     ClosingNoCount: "the events before a refused one are not counted at a day's end",
 }
+OF_WHOLE {
+    WholeRoomFirst: "11 goes before 12",
+    WholeRoomForgotten: "a whole log writes what there is room for",
+    WholeRoomForOneMore: "a whole log asks for a byte more than lines",
+    WholeLineEndDropped: "a line end behind the rule of a whole log is dropped",
+    WholePlaceNext: "an event of a whole log is refused at the next line",
+    WholePlaceZero: "an event of a whole log is refused at place 0",
+    WholeCountOneMore: "the event that a whole log is refused at is counted",
+    WholeNoCount: "the events before a refused one of a whole log are not counted",
+    WholeNothingWritten: "a refused event of a whole log leaves all bytes",
+    WholeByteBeyond: "a byte is written behind the last verdict",
+    WholeOpeningShown: "the first byte is what the opening shows",
+    WholeLostShown: "an event that was lost has a byte",
+}
 OF_MACHINES {
     JoinedByVerdict: "rows are joined by the verdict alone",
     NothingJoined: "no rows are joined",
@@ -334,5 +348,5 @@ pub fn with<T>(fault: Option<Fault>, work: impl FnOnce() -> T) -> T {
 }
 
 pub fn named(name: &str) -> Option<Fault> {
-    ALL.iter().chain(OF_TABLES).chain(OF_WRITING).chain(OF_SHEETS).chain(OF_STORES).chain(OF_CLOSING).chain(OF_RUNS).chain(OF_MACHINES).chain(OF_ROWS).chain(OF_LOOK_UPS).chain(OF_DAYS).chain(OF_REPORTS).chain(OF_MINUTES).chain(OF_SCRAPS).find(|f| f.1 == name).map(|f| f.0)
+    ALL.iter().chain(OF_TABLES).chain(OF_WRITING).chain(OF_SHEETS).chain(OF_STORES).chain(OF_CLOSING).chain(OF_WHOLE).chain(OF_RUNS).chain(OF_MACHINES).chain(OF_ROWS).chain(OF_LOOK_UPS).chain(OF_DAYS).chain(OF_REPORTS).chain(OF_MINUTES).chain(OF_SCRAPS).find(|f| f.1 == name).map(|f| f.0)
 }

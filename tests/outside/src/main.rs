@@ -39,6 +39,7 @@ mod sensors;
 mod sheets;
 mod tables;
 mod watch;
+mod whole;
 
 use std::path::Path;
 use watch::{File, Files};
