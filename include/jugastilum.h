@@ -104,14 +104,16 @@ jug_answer jug_keep_sheet(jug_store *store, const uint8_t *sheet, size_t sheet_l
    Refused by 9 (as above), 20 (that edition is not kept), 11 (the sheet does not fit): nothing is written. */
 jug_answer jug_kept_sheet(const jug_store *store, uint64_t edition, uint8_t *out, size_t out_len);
 
-/* What a day ends with, by an edition of the closing verdicts: edition 1 is the last verdict. Edition 2 is the same where that is decided. Where it is inconclusive, and each event
-   since the last restart (its own among them) saw all propositions of the rule, it is presumed by finite-trace logic over these events whether the rule was kept.
-   Accepted: `value` = JUG_INCONCLUSIVE to JUG_PRESUMABLY_FALSE. Refused by 3, 2 (table), 4 to 8 (rule), 12 (log); at an event by 10 or 16: `place` = where its line begins,
-   `count` = lines before it; then by 21 (another edition). */
+/* Two verdicts more, with which a day may end. */
 enum {
     JUG_PRESUMABLY_TRUE = 4,
     JUG_PRESUMABLY_FALSE = 5
 };
+
+/* What a day ends with, by an edition of the closing verdicts: edition 1 is the last verdict. Edition 2 is the same where that is decided. Where it is inconclusive, and each event
+   since the last restart (its own among them) saw all propositions of the rule, it is presumed by finite-trace logic over these events whether the rule was kept.
+   Accepted: `value` = JUG_INCONCLUSIVE to JUG_PRESUMABLY_FALSE. Refused by 3, 2 (table), 4 to 8 (rule), 12 (log); at an event by 10 or 16: `place` = where its line begins,
+   `count` = lines before it; then by 21 (another edition). */
 jug_answer jug_close_log(const uint8_t *table, size_t table_len, const uint8_t *rule, size_t rule_len,
                          const uint8_t *log, size_t log_len, uint64_t edition);
 
