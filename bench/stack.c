@@ -1,64 +1,127 @@
-/* How much stack each call of the C interface takes: it is run on a stack that was painted, and what is still painted was not touched.
-   cc -std=gnu11 -O1 -static -Iinclude -o target/stack bench/stack.c target/staticlib/libjugastilum.a -lpthread; target/stack FOLDER */
+/* How much stack each function of jugastilum.h takes: it is called on a stack that was painted, and what is still painted was not touched.
+   cc -std=gnu11 -O1 -static -Iinclude -o target/stack bench/stack.c target/staticlib/libjugastilum.a -lpthread; target/stack FOLDER
+   FOLDER has plant.txt, rule.txt and log.txt that are accepted. A line for each call: its name, the number that it answered, and the bytes of stack. */
 #include "jugastilum.h"
 #include <pthread.h>
 #include <stdio.h>
-#include <string.h>
 #include <stdlib.h>
+#include <string.h>
 #define SIZE (8u << 20)
-static uint8_t *stack;
-static uint8_t plant[2477], rule[513], log_[65520], verdicts[4000], states[JUG_WITNESS];
-static size_t pl, rl, ll;
-static jug_box box;
+#define TABLE plant, plant_len, rule, rule_len
+#define LOG log_, log_len
+
+static uint8_t plant[JUG_TABLE], rule[513], log_[65520], verdicts[4000], states[JUG_WITNESS], text[JUG_DAY_SHEET], machine[JUG_MACHINE];
+static uint64_t work[JUG_MACHINE_WORK];
+static size_t plant_len, rule_len, log_len;
+static jug_box box, radio;
 static jug_store store;
-static const char sheet[] = "edition=9\nrule=G(p0->Fp1)\nclosing=2\n";
 static jug_day day;
-static uint8_t day_text[JUG_DAY_SHEET];
-static int what;
-static jug_answer got;
-static void *call(void *x)
+static jug_answer made, keeps, breaks;
+static uint8_t kept[JUG_WITNESS], broken[JUG_WITNESS];
+static const uint8_t sheet[] = "edition=9\nrule=G(p0->Fp1)\nclosing=2\n";
+static const size_t sheet_len = sizeof sheet - 1;
+/* A table of 64 states and 4 fairness sets, all of them full. */
+static uint64_t full[64];
+static uint16_t label[64];
+
+static jug_answer nothing(void) { return (jug_answer){0, 0, 0, 0}; }
+static jug_answer watch_log(void) { return jug_watch_log(TABLE, LOG, verdicts, sizeof verdicts); }
+static jug_answer open_(void) { return jug_open(TABLE, &box); }
+static jug_answer look(void) { return jug_look(&box); }
+static jug_answer step(void) { return jug_step(&box, 0, 0, 0); }
+static jug_answer first(void) { jug_open(TABLE, &box); return jug_step(&box, 0, 0, 0); }
+static jug_answer restart(void) { return jug_step_numbered(&box, 12, 0, 0, 1); }
+static jug_answer goes_on(void) { return jug_goes_on(&box, 1, states, sizeof states); }
+static jug_answer goes_wrong(void) { return jug_goes_on(&box, 0, states, sizeof states); }
+static jug_answer write_table(void) { return jug_write_table(16, 64, full[0], 4, full, 4, label, 64, full, 64, text, sizeof text); }
+static jug_answer setting(void) { return jug_setting(sheet, sheet_len, sheet, sheet_len, JUG_CLOSING); }
+static jug_answer keep_sheet(void) { return jug_keep_sheet(&store, sheet, sheet_len); }
+static jug_answer kept_sheet(void) { return jug_kept_sheet(&store, 9, states, sizeof states); }
+static jug_answer close_log(void) { return jug_close_log(TABLE, LOG, 2); }
+static jug_answer make_machine(void) { return made = jug_machine(TABLE, work, JUG_MACHINE_WORK, machine, sizeof machine); }
+static jug_answer machine_step(void) { return jug_machine_step(machine, made.count * made.value, made.value == 8 ? 1 : made.value == 20 ? 2 : 3, 0, 0, 0, 0); }
+static jug_answer note(void) { return jug_note(&box, &day, 0, 0, 0, 0, 0); }
+static jug_answer note_missing(void) { return jug_note(&box, &day, 1, 20, 0, 0, 1); }
+static jug_answer day_sheet(void) { return jug_day_sheet(&day, text, sizeof text); }
+static jug_answer judge_of(size_t len)
 {
-    (void)x;
-    switch (what) {
-    case 0: got = (jug_answer){0, 0, 0, 0}; break;
-    case 1: got = jug_watch_log(plant, pl, rule, rl, log_, ll, verdicts, sizeof verdicts); break;
-    case 2: got = jug_open(plant, pl, rule, rl, &box); break;
-    case 3: got = jug_look(&box); break;
-    case 4: got = jug_step(&box, 0, 0, 0); break;
-    case 5: got = jug_step_numbered(&box, 12, 0, 0, 1); break;
-    case 6: got = jug_goes_on(&box, 1, states, sizeof states); break;
-    case 7: got = jug_goes_on(&box, 0, states, sizeof states); break;
-    case 8: got = jug_setting((const uint8_t *)sheet, sizeof sheet - 1, (const uint8_t *)sheet, sizeof sheet - 1, JUG_CLOSING); break;
-    case 9: got = jug_keep_sheet(&store, (const uint8_t *)sheet, sizeof sheet - 1); break;
-    case 10: got = jug_kept_sheet(&store, 9, states, sizeof states); break;
-    case 11: got = jug_note(&box, &day, 0, 0, 0, 0, 0); break;
-    case 12: got = jug_note(&box, &day, 1, 20, 0, 0, 1); break;
-    case 13: got = jug_day_sheet(&day, day_text, sizeof day_text); break;
-    }
-    return 0;
+    return jug_judge(TABLE, log_, len, JUG_INCONCLUSIVE, kept, keeps.value, kept + keeps.value, keeps.count, broken, breaks.value, broken + breaks.value, breaks.count);
 }
-static size_t rd(const char *d, const char *n, uint8_t *to, size_t room)
+static jug_answer judge(void) { return judge_of(log_len); }
+static jug_answer judge_runs(void) { return judge_of(0); }
+static jug_answer take(void) { return jug_take(&radio, LOG, verdicts, sizeof verdicts); }
+static jug_answer end(void) { return jug_end(&radio); }
+
+static const struct {
+    const char *name;
+    jug_answer (*call)(void);
+} calls[] = {
+    {"nothing", nothing}, {"watch_log", watch_log}, {"open", open_}, {"look", look}, {"open, step", first}, {"step", step}, {"step, restart", restart},
+    {"goes_on, keeps", goes_on}, {"goes_on, breaks", goes_wrong}, {"write_table", write_table}, {"setting", setting}, {"keep_sheet", keep_sheet}, {"kept_sheet", kept_sheet},
+    {"close_log", close_log}, {"machine", make_machine}, {"machine_step", machine_step}, {"note", note}, {"note, missing", note_missing}, {"day_sheet", day_sheet},
+    {"judge", judge}, {"judge, no event", judge_runs}, {"take", take}, {"end", end},
+};
+static size_t now;
+static jug_answer answer;
+
+static void *call(void *unused)
 {
-    char p[4096]; snprintf(p, sizeof p, "%s/%s", d, n); FILE *f = fopen(p, "rb"); if (!f) exit(2); size_t k = fread(to, 1, room, f); fclose(f); return k;
+    (void)unused;
+    answer = calls[now].call();
+    return NULL;
 }
-int main(int c, char **v)
+
+static size_t read_file(const char *folder, const char *name, uint8_t *to, size_t room)
 {
-    (void)c;
-    static const char *names[] = {"nothing", "watch_log", "open", "look", "step", "step_numbered", "goes_on keeps", "goes_on breaks", "setting", "keep_sheet", "kept_sheet", "note", "note, 6 missing", "day_sheet"};
-    pl = rd(v[1], "plant.txt", plant, sizeof plant); rl = rd(v[1], "rule.txt", rule, sizeof rule); ll = rd(v[1], "log.txt", log_, sizeof log_);
-    if (rl && rule[rl - 1] == '\n') rl--;
-    stack = aligned_alloc(4096, SIZE);
+    char path[4096];
+    snprintf(path, sizeof path, "%s/%s", folder, name);
+    FILE *file = fopen(path, "rb");
+    if (!file)
+        exit(2);
+    size_t len = fread(to, 1, room, file);
+    fclose(file);
+    return len;
+}
+
+/* What each call needs beside the texts: a full store, a box for the radio, and a run of each kind from the start on. */
+static void ready(void)
+{
     for (uint8_t n = '1'; n <= '8'; n++)
-        jug_keep_sheet(&store, (const uint8_t[]){'e', 'd', 'i', 't', 'i', 'o', 'n', '=', n, '\n'}, 10); /* a full store */
+        jug_keep_sheet(&store, (const uint8_t[]){'e', 'd', 'i', 't', 'i', 'o', 'n', '=', n, '\n'}, 10);
+    for (int i = 0; i < 64; i++)
+        full[i] = UINT64_MAX, label[i] = UINT16_MAX;
+    jug_open(TABLE, &radio);
+    keeps = jug_goes_on(&radio, 1, kept, sizeof kept);
+    breaks = jug_goes_on(&radio, 0, broken, sizeof broken);
+}
+
+int main(int argc, char **argv)
+{
+    if (argc != 2)
+        return 2;
+    plant_len = read_file(argv[1], "plant.txt", plant, sizeof plant);
+    rule_len = read_file(argv[1], "rule.txt", rule, sizeof rule);
+    log_len = read_file(argv[1], "log.txt", log_, sizeof log_);
+    if (rule_len && rule[rule_len - 1] == '\n')
+        rule_len--;
+    ready();
+    uint8_t *stack = aligned_alloc(4096, SIZE);
     size_t none = 0;
-    for (what = 0; what < (int)(sizeof names / sizeof *names); what++) {
+    for (now = 0; now < sizeof calls / sizeof *calls; now++) {
+        pthread_attr_t on;
+        pthread_t thread;
         memset(stack, 0xc3, SIZE);
-        pthread_attr_t a; pthread_attr_init(&a); pthread_attr_setstack(&a, stack, SIZE);
-        pthread_t t; if (pthread_create(&t, &a, call, 0)) return 3;
-        pthread_join(t, 0);
-        size_t i = 0; while (i < SIZE && stack[i] == 0xc3) i++;
-        size_t used = SIZE - i; if (!what) none = used;
-        printf("%-16s number=%llu stack=%zu\n", names[what], (unsigned long long)got.number, used - none);
+        pthread_attr_init(&on);
+        pthread_attr_setstack(&on, stack, SIZE);
+        if (pthread_create(&thread, &on, call, NULL))
+            return 3;
+        pthread_join(thread, NULL);
+        size_t painted = 0;
+        while (painted < SIZE && stack[painted] == 0xc3)
+            painted++;
+        if (!now)
+            none = SIZE - painted;
+        printf("%-16s number=%-2llu stack=%zu\n", calls[now].name, (unsigned long long)answer.number, SIZE - painted - none);
     }
     return 0;
 }
