@@ -1,5 +1,5 @@
 -- A BETTER SENSOR NEVER HURTS (02, m), and neither does a table with fewer starts and moves. Six claims stand at the end: on the calls, on the bytes of a whole log, and on the lines of
--- the program. Better proves them; this page has no proof, so what it takes from other files is what must be believed. Needed shows that no hypothesis can be left out.
+-- the program. Better proves them; this page has no proof, so what it takes from other files is what must be believed. Needed (sensors_needed/specs) shows that no hypothesis can be left out.
 -- Read beside it: `Narrower` (theory/specs/Narrow), which says what a lamp may change to; `numberAt` (watching/specs/Filled), the number that an event takes; `after` (watching/specs/Watching),
 -- what the calls give, event after event; WholeLog and FrontDoor (front_door/specs) for texts.
 use Prim.Native.Nat.{ℕ, suc, _≤_, _<_}
