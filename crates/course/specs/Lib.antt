@@ -3,3 +3,4 @@ pub mod Course
 pub mod CourseRight
 pub mod Turns
 pub mod Lamps
+pub mod Lent

@@ -1,12 +1,12 @@
 // A whole log, line by line from a monitor on, with what the rule says worked out once and nothing checked but the events: the answers are those
 // of stepping one by one.
-use advance::lamp;
-use advance::take;
+mod lent;
+
 use answers::Lamp;
 use answers::Outcome;
 use event_numbers::check_event;
-use event_numbers::missing;
-use event_numbers::number_of;
+use lent::lamp_of;
+use lent::take_lent;
 use pairs::Pairs;
 use plant::Plant;
 use sides::Monitor;
@@ -64,7 +64,32 @@ fn note(
     store_number(numbers, at, number);
 }
 
-// The loop. It stops at the first event that is refused. Of each event taken, what is shown is stored, where there is room.
+// Where a log went, with its monitor put together.
+fn ended(
+    outcome: Outcome,
+    done: usize,
+    seen: bool,
+    keeps: Pairs,
+    breaks: Pairs,
+    expected: u64,
+) -> Went
+    ensures { λ r. ⌜ r ≡ record { outcome = outcome; done = done; monitor = record { seen = seen; keeps = keeps; breaks = breaks; expected = expected } } ⌝ }
+{
+    let monitor = Monitor {
+        seen,
+        keeps,
+        breaks,
+        expected,
+    };
+    Went {
+        outcome,
+        done,
+        monitor,
+    }
+}
+
+// The loop. The monitor stands in its parts, so that an event changes the two sets where they are. It stops at the first event that is refused. Of each event
+// taken, what is shown is stored, where there is room.
 fn turns(
     plant: Plant,
     label: &[u16],
@@ -81,25 +106,20 @@ fn turns(
     ensures { λ r. ⌜ Followed (courseIn plant (now (label .entry)) (now (next .entry)) ways live monitor (now (text .entry)))
         (now (verdicts .entry)) (now (lefts .entry)) (now (numbers .entry)) (now (verdicts .exit)) (now (lefts .exit)) (now (numbers .exit)) r ⌝ }
 {
-    let mut now = monitor;
+    let mut seen = monitor.seen;
+    let mut keeps = monitor.keeps;
+    let mut breaks = monitor.breaks;
+    let mut expected = monitor.expected;
     let lines = text.len() / log::line_bytes(text, plant.props);
     for n in 0..lines {
         let event = log::event_at(text, n, plant.props);
-        let outcome = check_event(event, plant.props, now.seen, now.expected);
+        let outcome = check_event(event, plant.props, seen, expected);
         match outcome {
             Outcome::Refused(refusal) => {
-                return Went {
-                    outcome: Outcome::Refused(refusal),
-                    done: n,
-                    monitor: now,
-                };
+                return ended(Outcome::Refused(refusal), n, seen, keeps, breaks, expected);
             }
             Outcome::Accepted => {
-                let num = event.num;
-                let number = number_of(num, now.expected);
-                let gap = missing(now.seen, now.expected, number);
-                now.expected = number + 1;
-                now = take(
+                let number = take_lent(
                     label,
                     next,
                     &ways.leave,
@@ -107,19 +127,20 @@ fn turns(
                     &ways.holds,
                     ways.count,
                     &live.words,
-                    now,
-                    gap,
+                    seen,
+                    expected,
                     event,
+                    &mut keeps.words,
+                    &mut breaks.words,
                 );
-                note(verdicts, lefts, numbers, n, lamp(now), number);
+                seen = true;
+                expected = number + 1;
+                let shown = lamp_of(&keeps.words, &breaks.words);
+                note(verdicts, lefts, numbers, n, shown, number);
             }
         }
     }
-    Went {
-        outcome: Outcome::Accepted,
-        done: lines,
-        monitor: now,
-    }
+    ended(Outcome::Accepted, lines, seen, keeps, breaks, expected)
 }
 
 // Of an accepted table and rule, from a live set and a monitor of theirs.
