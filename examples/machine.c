@@ -13,10 +13,12 @@ int main(void)
     printf("start verdict=%s left=%d\n", lamps[jug_machine_bytes[0][0]], jug_machine_bytes[0][1]);
     for (int n = 0; scanf("see=%x val=%x new=%u\n", &see, &val, &restart) == 3; n++) {
         unsigned cell = 2 + restart; /* behind the verdict, `left`, and two cells for each legal event that comes before */
-        for (unsigned before = 0; see < 8 && before < see * 8 + val; before++)
+        if (see > 7 || val & ~see || restart > 1)
+            return 1; /* no event */
+        for (unsigned before = 0; before < see * 8 + val; before++)
             cell += before % 8 & ~(before / 8) ? 0 : 2;
-        if (see > 7 || val & ~see || restart > 1 || cell >= sizeof jug_machine_bytes[0])
-            return 1; /* no event of this plant */
+        if (cell >= sizeof jug_machine_bytes[0])
+            return 1; /* none of this plant */
         row = jug_machine_bytes[row][cell];
         printf("n=%d verdict=%s left=%d\n", n, lamps[jug_machine_bytes[row][0]], jug_machine_bytes[row][1]);
     }

@@ -47,6 +47,18 @@ static void walk(const char *rule)
     }
 }
 
+/* A ring of 64 states, all of which start: more than 256 sets of them are told apart by p0, which the first alone has. */
+static void too_many_states(void)
+{
+    static char ring[4096];
+    size_t len = (size_t)sprintf(ring, "props=1\nstates=64\nstart=ffffffffffffffff\njust=0\n");
+    for (unsigned s = 0; s < 64; s++)
+        len += (size_t)sprintf(ring + len, "label%u=%02x\nnext%u=%016llx\n", s, s == 0, s, 1ull << (s + 1) % 64);
+    claim(is(make(ring, "p0", JUG_MACHINE_WORK, sizeof machine), 15, 0, 0, 0) && machine[0] == 0xee && words_are(0, 0, JUG_MACHINE_WORK), "over 256 states is 15, and the words end 0");
+    claim(is(make(ring, "p0", JUG_MACHINE_WORK, 0), 15, 0, 0, 0), "15 comes before 11 for the bytes");
+    claim(is(make(ring, "p0", JUG_MACHINE_WORK - 1, 0), 11, 0, 0, 0) && words_are(7, 0, JUG_MACHINE_WORK), "11 for the words comes before 15, and they stay");
+}
+
 int main(void)
 {
     for (size_t i = 0; i < sizeof rules / sizeof *rules; i++) {
@@ -69,5 +81,6 @@ int main(void)
     claim(is(make(W, "Fp1", JUG_MACHINE_WORK - 1, size), 11, 0, 0, 0) && words_are(7, 0, JUG_MACHINE_WORK), "a word too few is 11, and the words stay");
     claim(is(make(W, "Fp1&", JUG_MACHINE_WORK, size), 5, 4, 0, 0) && words_are(7, 0, JUG_MACHINE_WORK), "a bad rule is 5, and the words stay");
     claim(is(make("props=4\nstates=1\nstart=0000000000000001\njust=0\nlabel0=00\nnext0=0000000000000001\n", "p3", 0, 0), 1, 0, 0, 0), "four propositions are 1, before 11");
+    too_many_states();
     return told("fixed machines");
 }

@@ -109,11 +109,11 @@ module _ (p : Plant) (fair label next : List ℕ) (rule : Rule) (given : Input p
   c = length (columnsOf (p .props))
 
   -- a machine of this monitor, and its bytes
-  record Stands (m : Machine) (bytes : List ℕ) : Type 0 where
-    three : p .props ≤ 3
-    of : MadeFor T f m
-    few : m .rows ≤ 256
-    in-bytes : Bytes c m bytes
+  pub record Stands (m : Machine) (bytes : List ℕ) : Type 0 where
+    pub three : p .props ≤ 3
+    pub of : MadeFor T f m
+    pub few : m .rows ≤ 256
+    pub in-bytes : Bytes c m bytes
 
   module _ {m : Machine} {bytes : List ℕ} (stands : Stands m bytes) where
     -- after a word its row shows what the monitor shows
@@ -212,7 +212,8 @@ module _ (p : Plant) (fair label next : List ℕ) (rule : Rule) (given : Input p
   isRows (Mades.Refused x) = 0
 
   module _ (work left old new : List ℕ) (size : Size) (answered : Machined p fair label next rule work left old new (Mades.Rows size)) where
-    wrote : (m : Machine) × Stands m (bytesOf size new) × (m .rows ≡ size .rows)
+    -- WHAT THE CALL WROTE is a machine of this monitor, byte for byte, with as many rows as it answers
+    pub wrote : (m : Machine) × Stands m (bytesOf size new) × (m .rows ≡ size .rows)
     wrote = by (machineOutcome p fair label next rule (length work)) refl answered
       where
         laid : (three : p .props ≤ 3) (m : Machine) → (MoreThan c (stepAt T f (liveSet T f)) (model.opening T f (liveSet T f)) 256 → ⊥) → MadeFor T f m
