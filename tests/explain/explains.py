@@ -254,6 +254,8 @@ def try_others(room):
         said, is_refused = others.told(name, folder)
         if is_refused != bool(status) or any(phrase not in said for phrase in phrases):
             fail('what `%s` says of %s is not told by %s, but so:\n%s' % (name, files, phrases, said))
+        if ('Refusal 18' in said or 'Refusal 12' in said) and not ('Expected here: ' in said and 'Likely cause: ' in said):
+            fail('`%s` of %s: the tool expects nothing at the program\'s place:\n%s' % (name, files, said))
     asked(0, ['The day ends with'], os.path.join(room, 'other0'), '--of', 'day')
     for file in ('rule.txt', 'words.txt'):
         os.remove(os.path.join(room, 'other0', file))

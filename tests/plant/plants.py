@@ -68,6 +68,7 @@ WORDS = [
     ('again and again: the', 'fairness: the', (13, 1), 'Is `again and again:` meant?'),
     ('the alarm ends = all', 'the alarm ends: all', (13, 32), '`=` behind the name'),
     ('quiet, alarm\n', 'quiet, alarm,\n', (5, 26), 'A comma at the end of a line'),
+    ('start: quiet', 'start: quiet,   # and more', (12, 14), 'A comma at the end of a line'),
     ('quiet, alarm\n', 'quiet,\n    alram\n', (6, 5), 'Is `alarm` meant? A comma at the end'),
     ('quiet, alarm\n', 'quiet\n    alarm\n', (6, 5), 'a list goes on behind a comma'),
     ('start: quiet', 'start: quiet and shut', (12, 8), 'Is a comma missing between `quiet` and `shut`?'),
