@@ -102,6 +102,10 @@ MANY = '0,' * 4096 + '0'
 OTHERS = [
     ('day', EVENING, {}, 0, ['From event 0 on, 5 events: inconclusive; never true or false.', 'The day ends with presumably-true: the lamp is inconclusive']),
     ('day', EVENING, {'local.txt': 'rule=Fp0\nclosing=1\n'}, 0, ['true or false for the first time at event', 'The day ends with true']),
+    ('day', EVENING, {'local.txt': 'closing=1\n'}, 0, ['nothing is presumed: `closing=1` asks for the last lamp alone']),
+    ('day', EVENING, {'log.txt': ''}, 0, ['nothing is presumed: there was no event']),
+    ('day', EVENING, {'log.txt': 'see=0f val=00 new=0\nsee=0e val=00 new=0\n'}, 0, ['nothing is presumed: event 1 did not see fish alarm sounds, of which the rule speaks']),
+    ('day', EVENING, {'log.txt': 'num=00000004 see=0f val=00 new=0\nnum=00000007 see=0f val=00 new=0\n'}, 0, ['nothing is presumed: before event 7 2 were lost']),
     ('day', EVENING, {'local.txt': 'closing=100\n'}, 1, ['Refusal 18 at byte 10', 'local.txt, line 1, column 11', 'Expected here: the end of the line', 'too large']),
     ('day', EVENING, {'local.txt': 'closing=05\n'}, 1, ['local.txt, line 1, column 10', 'no zero before']),
     ('day', EVENING, {'local.txt': 'closing=2\r\n'}, 1, ['local.txt, line 1, column 10', 'line ends of another system']),

@@ -1,8 +1,8 @@
 """What the other programs say of a folder, in words: `table`, `machine`, `day` and `judge`. Their answers stand as they are; nothing is decided here."""
 import re
 
-from desk import machine, program, refusals, texts
-from desk.trouble import counted
+from desk import machine, program, refusals, rules, sheets, texts
+from desk.trouble import counted, listed
 
 CLOSING = {
     'true': 'the last lamp is true: every run that fits keeps the rule',
@@ -10,7 +10,7 @@ CLOSING = {
     'out-of-model': 'the last lamp is out-of-model: no run of the plant fits what was seen',
     'presumably-true': 'the lamp is inconclusive; looking at this day alone, as if no other came, the rule was kept',
     'presumably-false': 'the lamp is inconclusive; looking at this day alone, as if no other came, the rule was not kept',
-    'inconclusive': 'so is the lamp, and nothing is presumed: by `closing=1`, or because there was no event, one was lost, or one did not see all that the rule speaks of',
+    'inconclusive': 'so is the lamp, and nothing is presumed',
 }
 REFUSED = re.compile(r'(?:(local|shared|rule|closing|report) )?refused=(\d{1,3}) place=(\d{1,10})\n?')
 
@@ -44,7 +44,25 @@ def of_day(output, folder):
         told_ = 'never true or false' if decided == '-' else 'true or false for the first time at event %s' % decided
         out.append('From event %s on, %s: %s; %s.' % (first, counted(int(events), 'event'), verdict, told_))
     closing = re.search(r'(?m)^closing verdict=(\S+)$', output).group(1)
-    return '\n'.join(out + ['The day ends with %s: %s.' % (closing, CLOSING[closing])])
+    return '\n'.join(out + ['The day ends with %s: %s%s.' % (closing, CLOSING[closing], why_open(folder) if closing == 'inconclusive' else '')])
+
+
+def why_open(folder):
+    """Why nothing is presumed: the edition, or the first event since the last restart that spoils it. Worked out here."""
+    values = dict(sheets.read_sheet(texts.text_of(folder, 'shared.txt')), **sheets.read_sheet(texts.text_of(folder, 'local.txt')))
+    if values['closing'][1] == '1':
+        return ': `closing=1` asks for the last lamp alone'
+    table = texts.table_of(folder)
+    names, events = texts.names_of(folder, table), texts.log_of(folder, table)
+    needed, numbers, lost = rules.used(rules.read_rule(values['rule'][1])), texts.numbers(events), texts.lost(events)
+    begin = max([k for k, event in enumerate(events) if event.new] or [0])
+    for k in range(begin, len(events)):
+        if k > begin and lost[k]:
+            return ': before event %d %s lost, and nobody knows what was to be seen then' % (numbers[k], '1 was' if lost[k] == 1 else '%d were' % lost[k])
+        unseen = [names.signal[p] for p in sorted(needed) if not events[k].see >> p & 1]
+        if unseen:
+            return ': event %d did not see %s, of which the rule speaks' % (numbers[k], listed(unseen))
+    return ': there was no event'
 
 
 def of_judge(output, folder):
