@@ -13,7 +13,8 @@ use files::File;
 use libc::STDOUT_FILENO;
 use minutes::note_texts;
 use plant::TableRead;
-use report::Line;
+use program::said::put;
+use program::said::refuse;
 use settings::Asked;
 use settings::SheetRefusal;
 use settings::ask;
@@ -23,7 +24,6 @@ use stretches::DaySheet;
 use transcript::texts;
 ghost use Prim.Native.Nat.{_≤_};
 ghost use lib.ListN.{length};
-ghost use Rattle.io.specs.Counts.{Counts};
 
 // The folder that the argument names, or this one.
 fn main() {
@@ -169,14 +169,6 @@ fn show_verdict(verdict: ClosingVerdict) {
     }
 }
 
-fn put(text: &[u8]) {
-    io::write_all(STDOUT_FILENO, text);
-}
-
-fn refuse(refusal: Refusal) {
-    show(report::refused_line(refusal));
-}
-
 // An event is refused at the offset of its line.
 fn refuse_event(stop: Stop) {
     let refusal = stop.refusal;
@@ -194,12 +186,4 @@ fn refuse_sheet(refusal: SheetRefusal, key: &[u8]) {
         put(key);
     }
     refuse(Refusal::at(kind, refusal.place));
-}
-
-fn show(line: Line)
-    requires { ⌜ Counts (line .len) (line .bytes) ⌝ }
-{
-    let len = line.len;
-    let bytes = line.bytes;
-    io::write_all(STDOUT_FILENO, &bytes[..len]);
 }

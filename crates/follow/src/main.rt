@@ -5,24 +5,23 @@ use answers::Kind;
 use answers::Outcome;
 use answers::Refusal;
 use controller::LogAnswer;
-use files::File;
 use libc::STDIN_FILENO;
-use libc::STDOUT_FILENO;
 use pairs::Pairs;
 use plant::Plant;
 use plant::Table;
 use plant::TableRead;
+use program::given::read_plant;
+use program::given::read_rule;
+use program::said::refuse;
+use program::said::show;
 use radio::Form;
 use radio::Radio;
-use report::Line;
 use rule_text::RuleRead;
 use sides::Monitor;
 use syntax::Rule;
-use transcript::texts;
 ghost use mathlib.Core.Path.{_≡_};
 ghost use Prim.Native.Nat.{_≤_, _<_};
 ghost use lib.ListN.{length};
-ghost use Rattle.io.specs.Counts.{Counts};
 ghost use Rattle.opened.specs.Lent.{Lent};
 ghost use Rattle.scraps.specs.Calls.{longest};
 ghost use Rattle.follow.specs.AtOnce.{eventsIn, goesOn, bytesHeard, Onward};
@@ -51,15 +50,6 @@ fn with_folder(folder: &[u8]) {
     }
 }
 
-fn read_plant(folder: &[u8]) -> TableRead
-    ensures { λ r. ⌜ Lent (r .table) ⌝ }
-{
-    let mut text = [0u8; File::PLANT];
-    let file = files::read_in(folder, b"plant.txt", &mut text);
-    let len = file.len;
-    texts::read_plant(file.ok, &text[..len])
-}
-
 // Of the table, as many parts are lent as it counts.
 fn with_table(folder: &[u8], table: Table)
     requires { ⌜ Lent table ⌝ }
@@ -81,10 +71,7 @@ fn with_table(folder: &[u8], table: Table)
 
 // rule.txt by 14 and 4 to 8.
 fn with_parts(folder: &[u8], plant: Plant, fair: &[u64], label: &[u16], next: &[u64]) {
-    let mut text = [0u8; File::RULE];
-    let file = files::read_in(folder, b"rule.txt", &mut text);
-    let len = file.len;
-    let read: RuleRead = texts::read_rule(plant, fair, label, next, file.ok, &text[..len]);
+    let read: RuleRead = read_rule(folder, plant, fair, label, next);
     let outcome = read.outcome;
     let rule = read.rule;
     match outcome {
@@ -260,16 +247,4 @@ fn end(broken: bool, outcome: Outcome) {
         Outcome::Accepted => {}
         Outcome::Refused(refusal) => refuse(refusal),
     }
-}
-
-fn refuse(refusal: Refusal) {
-    show(report::refused_line(refusal));
-}
-
-fn show(line: Line)
-    requires { ⌜ Counts (line .len) (line .bytes) ⌝ }
-{
-    let len = line.len;
-    let bytes = line.bytes;
-    io::write_all(STDOUT_FILENO, &bytes[..len]);
 }

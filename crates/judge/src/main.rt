@@ -4,17 +4,16 @@ use answers::Kind;
 use answers::Refusal;
 use controller::Stop;
 use files::File;
-use libc::STDOUT_FILENO;
 use neighbour::Fault;
 use neighbour::Judged;
 use neighbour::judge_report;
-use report::Line;
+use program::said::put;
+use program::said::refuse;
 use report_text::ReportParts;
 use report_text::ReportRead;
 use report_text::read_report;
 use report_text::states::states_at;
 use shown::Failing;
-ghost use Rattle.io.specs.Counts.{Counts};
 
 // The most bytes of report.txt.
 const REPORT: usize = 65536;
@@ -160,14 +159,6 @@ fn tell_failing(failing: Failing) {
     }
 }
 
-fn put(text: &[u8]) {
-    io::write_all(STDOUT_FILENO, text);
-}
-
-fn refuse(refusal: Refusal) {
-    show(report::refused_line(refusal));
-}
-
 // An event is refused at the offset of its line.
 fn refuse_event(stop: Stop) {
     let refusal = stop.refusal;
@@ -178,12 +169,4 @@ fn refuse_event(stop: Stop) {
 fn refuse_report(place: usize) {
     put(b"report ");
     refuse(Refusal::at(Kind::LogText, place));
-}
-
-fn show(line: Line)
-    requires { ⌜ Counts (line .len) (line .bytes) ⌝ }
-{
-    let len = line.len;
-    let bytes = line.bytes;
-    io::write_all(STDOUT_FILENO, &bytes[..len]);
 }

@@ -4,19 +4,17 @@ mod rows;
 
 use answers::Outcome;
 use answers::Refusal;
-use files::File;
 use fixed_machine::Made;
 use fixed_machine::Size;
 use fixed_machine::make_machine;
-use libc::STDOUT_FILENO;
 use plant::Plant;
 use plant::Table;
 use plant::TableRead;
-use report::Line;
+use program::given::read_plant;
+use program::given::read_rule;
+use program::said::refuse;
 use rule_text::RuleRead;
 use syntax::Rule;
-use transcript::texts;
-ghost use Rattle.io.specs.Counts.{Counts};
 ghost use Rattle.opened.specs.Lent.{Lent};
 
 // The bytes of the largest machine: 256 rows of 56.
@@ -38,15 +36,6 @@ fn run_in(folder: &[u8]) {
         Outcome::Refused(refusal) => refuse(refusal),
         Outcome::Accepted => with_table(folder, table),
     }
-}
-
-fn read_plant(folder: &[u8]) -> TableRead
-    ensures { λ r. ⌜ Lent (r .table) ⌝ }
-{
-    let mut text = [0u8; File::PLANT];
-    let file = files::read_in(folder, b"plant.txt", &mut text);
-    let len = file.len;
-    texts::read_plant(file.ok, &text[..len])
 }
 
 // Of a table as many parts are lent as it counts.
@@ -78,13 +67,6 @@ fn with_parts(folder: &[u8], plant: Plant, fair: &[u64], label: &[u16], next: &[
     }
 }
 
-fn read_rule(folder: &[u8], plant: Plant, fair: &[u64], label: &[u16], next: &[u64]) -> RuleRead {
-    let mut text = [0u8; File::RULE];
-    let file = files::read_in(folder, b"rule.txt", &mut text);
-    let len = file.len;
-    texts::read_rule(plant, fair, label, next, file.ok, &text[..len])
-}
-
 // There is room for the largest machine, so only 1 and 15 are left to refuse.
 fn with_rule(plant: Plant, fair: &[u64], label: &[u16], next: &[u64], rule: Rule) {
     let mut work = [0u64; Size::WORDS];
@@ -94,16 +76,4 @@ fn with_rule(plant: Plant, fair: &[u64], label: &[u16], next: &[u64], rule: Rule
         Made::Refused(refusal) => refuse(refusal),
         Made::Rows(size) => rows::show_machine(&machine, size),
     }
-}
-
-fn refuse(refusal: Refusal) {
-    show(report::refused_line(refusal));
-}
-
-fn show(line: Line)
-    requires { ⌜ Counts (line .len) (line .bytes) ⌝ }
-{
-    let len = line.len;
-    let bytes = line.bytes;
-    io::write_all(STDOUT_FILENO, &bytes[..len]);
 }

@@ -1,10 +1,11 @@
 // The three files of a folder: plant.txt, rule.txt and log.txt, each read and checked in turn, up to the first refusal.
 use answers::Outcome;
 use answers::Refusal;
-use files::File;
 use plant::Plant;
 use plant::Table;
 use plant::TableRead;
+use program::given::read_plant;
+use program::given::read_rule;
 use rule_text::RuleRead;
 use syntax::Rule;
 use transcript::texts;
@@ -32,15 +33,6 @@ pub fn read_given(folder: &[u8], text: &mut [u8]) -> Given
     }
 }
 
-fn read_plant(folder: &[u8]) -> TableRead
-    ensures { λ r. ⌜ Lent (r .table) ⌝ }
-{
-    let mut text = [0u8; File::PLANT];
-    let file = files::read_in(folder, b"plant.txt", &mut text);
-    let len = file.len;
-    texts::read_plant(file.ok, &text[..len])
-}
-
 // rule.txt, and what follows.
 fn with_table(folder: &[u8], table: Table, text: &mut [u8]) -> Given
     requires { ⌜ Lent table ⌝ }
@@ -66,13 +58,6 @@ fn with_table(folder: &[u8], table: Table, text: &mut [u8]) -> Given
         Outcome::Refused(refusal) => none_of(refusal, table, rule, text),
         Outcome::Accepted => with_rule(folder, table, rule, text),
     }
-}
-
-fn read_rule(folder: &[u8], plant: Plant, fair: &[u64], label: &[u16], next: &[u64]) -> RuleRead {
-    let mut text = [0u8; File::RULE];
-    let file = files::read_in(folder, b"rule.txt", &mut text);
-    let len = file.len;
-    texts::read_rule(plant, fair, label, next, file.ok, &text[..len])
 }
 
 // log.txt, and its form.

@@ -9,13 +9,14 @@ use files::File;
 use libc::STDOUT_FILENO;
 use monitor::Monitor;
 use plant::Plant;
+use program::said::refuse;
+use program::said::show;
 use report::Line;
 use syntax::Rule;
 use walk::Lengths;
 use witness::Witnessed;
 ghost use Prim.Native.Nat.{_≤_};
 ghost use lib.ListN.{length};
-ghost use Rattle.io.specs.Counts.{Counts};
 
 // The folder that the argument names, or this one.
 pub fn run() {
@@ -101,16 +102,4 @@ fn write_run(keeps: bool, states: &[u8], lengths: Lengths)
     let mut line = [0u8; Line::RUN];
     let len = report::run_line(&mut line, keeps, &states[..all], stem);
     io::write_all(STDOUT_FILENO, &line[..len]);
-}
-
-fn refuse(refusal: Refusal) {
-    show(report::refused_line(refusal));
-}
-
-fn show(line: Line)
-    requires { ⌜ Counts (line .len) (line .bytes) ⌝ }
-{
-    let len = line.len;
-    let bytes = line.bytes;
-    io::write_all(STDOUT_FILENO, &bytes[..len]);
 }

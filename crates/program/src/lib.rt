@@ -1,5 +1,8 @@
 // The program: it reads the three files of a folder, has its output filled in, and writes it. What it writes is `transcript`'s to say; of what is read and
-// written no contract can speak.
+// written no contract can speak. The other programs read and write with it.
+pub mod given;
+pub mod said;
+
 use files::File;
 use libc::STDOUT_FILENO;
 

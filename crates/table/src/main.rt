@@ -1,17 +1,15 @@
 // plant.txt of a folder, written anew: the same table with small digits, or why it is refused. It is thin as `program` is: the calls decide.
 use answers::Outcome;
 use answers::Refusal;
-use files::File;
 use libc::STDOUT_FILENO;
 use plant::Table;
 use plant::TableRead;
 use plant_writer::Length;
 use plant_writer::Wrote;
-use report::Line;
-use transcript::texts;
+use program::given::read_plant;
+use program::said::refuse;
 ghost use Prim.Native.Nat.{_≤_};
 ghost use lib.ListN.{length};
-ghost use Rattle.io.specs.Counts.{Counts};
 ghost use Rattle.opened.specs.Lent.{Lent};
 
 // The folder that the argument names, or this one.
@@ -25,15 +23,6 @@ fn main() {
         Outcome::Refused(refusal) => refuse(refusal),
         Outcome::Accepted => show_table(table),
     }
-}
-
-fn read_plant(folder: &[u8]) -> TableRead
-    ensures { λ r. ⌜ Lent (r .table) ⌝ }
-{
-    let mut text = [0u8; File::PLANT];
-    let file = files::read_in(folder, b"plant.txt", &mut text);
-    let len = file.len;
-    texts::read_plant(file.ok, &text[..len])
 }
 
 fn show_table(table: Table)
@@ -64,16 +53,4 @@ fn show_text(text: &[u8], written: Length)
 {
     let len = written.bytes;
     io::write_all(STDOUT_FILENO, &text[..len]);
-}
-
-fn refuse(refusal: Refusal) {
-    show(report::refused_line(refusal));
-}
-
-fn show(line: Line)
-    requires { ⌜ Counts (line .len) (line .bytes) ⌝ }
-{
-    let len = line.len;
-    let bytes = line.bytes;
-    io::write_all(STDOUT_FILENO, &bytes[..len]);
 }
