@@ -102,10 +102,6 @@ MANY = '0,' * 4096 + '0'
 OTHERS = [
     ('day', EVENING, {}, 0, ['From event 0 on, 5 events: inconclusive; never true or false.', 'The day ends with presumably-true: the lamp is inconclusive']),
     ('day', EVENING, {'local.txt': 'rule=Fp0\nclosing=1\n'}, 0, ['true or false for the first time at event', 'The day ends with true']),
-    ('day', EVENING, {'local.txt': 'closing=1\n'}, 0, ['nothing is presumed: `closing=1` asks for the last lamp alone']),
-    ('day', EVENING, {'log.txt': ''}, 0, ['nothing is presumed: there was no event']),
-    ('day', EVENING, {'log.txt': 'see=0f val=00 new=0\nsee=0e val=00 new=0\n'}, 0, ['nothing is presumed: event 1 did not see fish alarm sounds, of which the rule speaks']),
-    ('day', EVENING, {'log.txt': 'num=00000004 see=0f val=00 new=0\nnum=00000007 see=0f val=00 new=0\n'}, 0, ['nothing is presumed: before event 7 2 were lost']),
     ('day', EVENING, {'local.txt': 'closing=100\n'}, 1, ['Refusal 18 at byte 10', 'local.txt, line 1, column 11', 'Expected here: the end of the line', 'too large']),
     ('day', EVENING, {'local.txt': 'closing=05\n'}, 1, ['local.txt, line 1, column 10', 'no zero before']),
     ('day', EVENING, {'local.txt': 'closing=2\r\n'}, 1, ['local.txt, line 1, column 10', 'line ends of another system']),
@@ -128,6 +124,10 @@ OTHERS = [
     ('day', EVENING, {'log.txt': 'see=0f'}, 1, ['Refusal 12', 'log.txt, line 1, column 7']),
     ('day', EVENING, {'local.txt': None}, 1, ['local.txt is not there', 'is an empty file']),
     ('day', EVENING, {'log.txt': None}, 1, ['log.txt is not there']),
+    ('day', EVENING, {'local.txt': 'closing=1\n'}, 0, ['nothing is presumed: `closing=1` asks for the last lamp alone']),
+    ('day', EVENING, {'log.txt': ''}, 0, ['nothing is presumed: there was no event']),
+    ('day', EVENING, {'log.txt': 'see=0f val=00 new=0\nsee=0e val=00 new=0\n'}, 0, ['nothing is presumed: event 1 did not see fish alarm sounds, of which the rule speaks']),
+    ('day', EVENING, {'log.txt': 'num=00000004 see=0f val=00 new=0\nnum=00000007 see=0f val=00 new=0\n'}, 0, ['nothing is presumed: before event 7 2 were lost']),
     ('judge', SENT, {}, 0, ['accepted: the report is right']),
     ('judge', SENT, {'report.txt': 'claim=true\nkeeps stem=0,1 loop=2,0,1\n'}, 0, ['wrong verdict']),
     ('judge', SENT, {'report.txt': ''}, 1, ['report.txt, line 1, column 1', 'is not of the form of a report', 'the file is empty']),
@@ -168,7 +168,8 @@ def fail(said):
     sys.exit('explain: %s' % said)
 
 
-asked = Tool('explain', fail).asked
+tool = Tool('explain', fail)
+asked = tool.asked
 
 
 def put(folder, files):
@@ -506,7 +507,7 @@ def try_guide(room):
     shown = [('The second answers:', [folder]), ('$ tools/explain examples/sluice --at 9', [os.path.join(HOME, 'examples', 'sluice'), '--at', '9']), ('`tools/explain` finds that:', [os.path.join(HOME, 'examples', 'lock')])]
     for begin, given in shown:
         block = re.match(r'[^\n]*\n+((?:    [^\n]*\n|\n)+)', guide[guide.index(begin):]).group(1)
-        said = run(*given)[1]
+        said = tool.run(*given)[1]
         for line in (part.strip() for row in block.splitlines() for part in row.split('..')):
             if line not in said:
                 fail('docs/GUIDE.md shows "%s", and the tool does not say it:\n%s' % (line, said))
