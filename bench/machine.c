@@ -9,6 +9,10 @@
 //     bare    the same in C with none: a loop over a table of bytes
 //     step    the same events by the proved `jug_step`, in a box
 //     none    the machine is made and the events are drawn, and nothing more is done
+//     steps   the same events as bytes, MANY of them in a call of the proved `jug_machine_steps`, which writes two bytes for each
+//     through the same in C with the same checks, by a call for as many
+//     over    the same in C with none: a loop over the bytes of the events and a table of bytes, by a call for as many
+//     shown   nothing is looked up, and the bytes behind events are gone through as behind a call
 // Compiled with TWIN_ALONE it needs no library, and has the modes in C alone.
 // It writes the rows and a digest of the bytes; of events, a digest of the verdicts and of what is left.
 #define main twin_main
@@ -167,7 +171,43 @@ __attribute__((always_inline)) static inline Stand look_inside(const uint8_t *by
 }
 NOINLINE static Stand look_up(const uint8_t *bytes, size_t len, size_t props, size_t row, Event e) { return look_inside(bytes, len, props, row, e); }
 
+// The same for many events, a byte each, with two bytes for what each shows: how many were looked up, and where they led.
+typedef struct { size_t done, row; int refused; } Through;
+
+NOINLINE static Through look_through(const uint8_t *bytes, size_t len, size_t props, size_t row, const uint8_t *events, size_t many, uint8_t *told, size_t room) {
+    if (props < 1 || props > 3) return (Through){0, row, 1};
+    size_t width = columns_of(props) + 2, rows = len % width || len / width > STATES ? 0 : len / width;
+    if (row >= rows) return (Through){0, row, 9};
+    if (room / 2 < many) return (Through){0, row, 11};
+    for (size_t i = 0; i < many; i++) {
+        size_t see = events[i] >> 4, val = events[i] >> 1 & 7;
+        if (row >= rows) return (Through){i, row, 9};
+        size_t first = see > 7 ? 56 : firsts[see] >> val * 8 & 255;
+        if (first >= width) return (Through){i, row, 10};
+        size_t to = bytes[row * width + first + (events[i] & 1)];
+        if (to >= rows || bytes[to * width] > 3 || bytes[to * width + 1] > 64) return (Through){i, row, 9};
+        row = to;
+        told[i * 2] = bytes[to * width];
+        told[i * 2 + 1] = bytes[to * width + 1];
+    }
+    return (Through){many, row, 0};
+}
+// With no check: where the cell of each byte stands in a row. main fills it.
+static uint8_t cell_of[256];
+
+NOINLINE static size_t look_over(const uint8_t *bytes, size_t width, size_t row, const uint8_t *events, size_t many, uint8_t *told) {
+    for (size_t i = 0; i < many; i++) {
+        row = bytes[row * width + cell_of[events[i]]];
+        told[i * 2] = bytes[row * width];
+        told[i * 2 + 1] = bytes[row * width + 1];
+    }
+    return row;
+}
+
+// So many in a call, out of so many that are drawn and gone through again and again.
+enum { MANY = 1024, DRAWN = 65536 };
 static Event *drawn;
+static uint8_t *packed, told[MANY * 2];
 static u64 shows;
 
 static void show(u64 verdict, u64 left) { shows = shows * 5 + verdict * 65 + left; }
@@ -176,16 +216,32 @@ static int draw_events(size_t count, size_t c) {
     u64 dice = 12345;
     size_t row = 0;
     drawn = malloc(count * sizeof *drawn + 1);
-    for (size_t i = 0; drawn && i < count; i++) {
+    packed = malloc(count + 1);
+    for (size_t i = 0; drawn && packed && i < count; i++) {
         size_t k, tries = 0;
         do {
             dice = dice * 6364136223846793005u + 1442695040888963407u;
             k = tries++ < 8 ? (dice >> 33) % c : 0;
         } while (k && machine[machine[row * (c + 2) + 2 + k] * (c + 2)] == 3);
         drawn[i] = event_at(k);
+        packed[i] = JUG_EVENT(sees[k / 2], vals[k / 2], k % 2);
         row = machine[row * (c + 2) + 2 + k];
     }
-    return drawn != NULL;
+    return drawn && packed;
+}
+// So many events in a call each time, and then what was written for them.
+static void look_many(const char *mode, size_t turns, size_t size, size_t c) {
+    size_t row = 0;
+    for (size_t i = 0; i < turns; i += MANY) {
+        size_t many = turns - i < MANY ? turns - i : MANY;
+        const uint8_t *events = packed + i % DRAWN;
+        if (!strcmp(mode, "through")) row = look_through(machine, size, p.props, row, events, many, told, sizeof told).row;
+        if (!strcmp(mode, "over")) row = look_over(machine, c + 2, row, events, many, told);
+#ifndef TWIN_ALONE
+        if (!strcmp(mode, "steps")) row = jug_machine_steps(machine, size, p.props, row, events, many, told, sizeof told).place;
+#endif
+        for (size_t k = 0; k < many; k++) show(told[k * 2], told[k * 2 + 1]);
+    }
 }
 
 typedef struct { uint8_t bytes[2479]; size_t len; } Whole;
@@ -211,6 +267,7 @@ int main(int argc, char **argv) {
     for (size_t q = 0; q < 27; q++) {
         twos[sees[q] * 8 + vals[q]] = q;
         firsts[sees[q]] ^= (56 ^ (q * 2 + 2)) << vals[q] * 8;
+        for (size_t new = 0; new < 2; new++) cell_of[JUG_EVENT(sees[q], vals[q], new)] = q * 2 + 2 + new;
     }
 #ifndef TWIN_ALONE
     if (strcmp(mode, "twin")) {
@@ -232,7 +289,8 @@ int main(int argc, char **argv) {
         if (before) fprintf(stderr, "states=%zu\n", before);
         return 0;
     }
-    if (!draw_events(turns, c)) return 1;
+    int by_many = !strcmp(mode, "steps") || !strcmp(mode, "through") || !strcmp(mode, "over") || !strcmp(mode, "shown");
+    if (!draw_events(by_many && turns > DRAWN ? DRAWN : turns, c)) return 1;
 #ifndef TWIN_ALONE
     jug_box box;
     jug_answer a;
@@ -262,7 +320,7 @@ int main(int argc, char **argv) {
         Event e = drawn[i];
         row = machine[row * (c + 2) + 2 + twos[e.see * 8 + e.val] * 2 + e.new];
         show(machine[row * (c + 2)], machine[row * (c + 2) + 1]);
-    }
+    } else if (by_many) look_many(mode, turns, size, c);
     printf("%" PRIu64 "\n", shows);
     return 0;
 }

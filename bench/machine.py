@@ -91,22 +91,29 @@ def each(name, modes, few, more, idle=()):
     return {mode: one[mode] - sum(one[other] for other in idle) for mode in modes}, heard[more].decode(), told
 
 
+def alone(name, level, modes, idle):
+    """What an event takes on this processor in C alone, in ns, in each mode, without what it takes in the idle one. The modes take turns, and the least of each counts."""
+    few, more, took = 1000000, 11000000, {}
+    for _ in range(7):
+        for mode in modes + (idle,):
+            for turns in (few, more):
+                spent = used_by([os.path.join(ROOM, 'alone' + level), mode, str(turns)], name)[0]
+                took[mode, turns] = min(spent, took.get((mode, turns), spent))
+    one = {mode: (took[mode, more] - took[mode, few]) / (more - few) for mode in modes + (idle,)}
+    return [one[mode] - one[idle] for mode in modes]
+
+
 def natively():
-    """What a look-up takes on this processor in C alone, in ns: with the same checks by a call, with them within the loop, and with none. The modes take turns, and the least of each counts."""
-    modes, few, more = ('checked', 'inside', 'bare', 'none'), 1000000, 11000000
+    """What a look-up takes on this processor in C alone, in ns: with the same checks by a call, with them within the loop, and with none; and many in a call, with them and with none."""
     print('\nan event in C, in ns of this processor (%s)' % os.uname().machine)
-    print('%-10s %-4s %8s %8s %8s %16s %15s' % ('case', 'at', 'checked', 'inside', 'bare', 'checked to bare', 'inside to bare'))
+    print('%-10s %-4s %8s %8s %8s %16s %15s %8s %8s %16s' % (
+        'case', 'at', 'checked', 'inside', 'bare', 'checked to bare', 'inside to bare', 'through', 'over', 'through to over'))
     for level in ('-O2', '-O3'):
         for name in LOOKED_UP:
-            took = {}
-            for _ in range(7):
-                for mode in modes:
-                    for turns in (few, more):
-                        spent = used_by([os.path.join(ROOM, 'alone' + level), mode, str(turns)], name)[0]
-                        took[mode, turns] = min(spent, took.get((mode, turns), spent))
-            one = {mode: (took[mode, more] - took[mode, few]) / (more - few) for mode in modes}
-            checked, inside, bare = (one[mode] - one['none'] for mode in modes[:3])
-            print('%-10s %-4s %8.2f %8.2f %8.2f %16.2f %15.2f' % (name, level, checked, inside, bare, checked / bare, inside / bare), flush=True)
+            checked, inside, bare = alone(name, level, ('checked', 'inside', 'bare'), 'none')
+            through, over = alone(name, level, ('through', 'over'), 'shown')
+            print('%-10s %-4s %8.2f %8.2f %8.2f %16.2f %15.2f %8.2f %8.2f %16.2f' % (
+                name, level, checked, inside, bare, checked / bare, inside / bare, through, over, through / over), flush=True)
 
 
 def main():
@@ -123,6 +130,12 @@ def main():
         step = each(name, ('step', 'look'), 100, 600, ('none',))[0]['step']
         print('%-10s %8.1f %8.1f %8.1f %8.1f %10.1f %13.2f %16.2f %13.0f' % (
             name, took['look'], took['bare'], took['checked'], took['inside'], step, took['look'] / took['bare'], took['look'] / took['checked'], step / took['look']), flush=True)
+    print('\nmany events in a call, an event in %s' % ('ns' if HOW == 'time' else 'instructions'))
+    print('%-10s %8s %8s %8s %14s %17s' % ('case', 'steps', 'through', 'over', 'steps to over', 'steps to through'))
+    for name in LOOKED_UP:
+        took = each(name, ('steps', 'through', 'over'), 102400, 307200, ('shown',))[0]
+        print('%-10s %8.1f %8.1f %8.1f %14.2f %17.2f' % (
+            name, took['steps'], took['through'], took['over'], took['steps'] / took['over'], took['steps'] / took['through']), flush=True)
     natively()
 
 

@@ -134,6 +134,16 @@ jug_answer jug_machine(const uint8_t *table, size_t table_len, const uint8_t *ru
    or the cell or the row that it leads to is none), 10 (the event). */
 jug_answer jug_machine_step(const uint8_t *machine, size_t machine_len, uint64_t props, uint64_t row, uint16_t see, uint16_t val, uint8_t new_);
 
+/* An event of at most 3 signals as a byte: see times 16, val times 2, and 1 for a restart; 255, which is no event, where see or val has no such signals. */
+#define JUG_EVENT(see, val, new_) ((uint8_t)((see) > 7 || (val) > 7 ? 255 : (see) << 4 | (val) << 1 | ((new_) ? 1 : 0)))
+
+/* Many events in a machine, a byte each, one after another from `row` on; `shown` gets two bytes for each: the verdict, and the states left. What lies behind stays.
+   Accepted: `count` = events, `place` = the row behind the last. Refused by 1, 9 (as jug_machine_step is) and 11 (`shown` has not two bytes for each event): nothing is
+   written, and `place` = `row`. Refused at an event as jug_machine_step refuses it, by 10 or 9: `count` = events before it, which are written, and `place` = the row
+   that they led to. */
+jug_answer jug_machine_steps(const uint8_t *machine, size_t machine_len, uint64_t props, uint64_t row, const uint8_t *events, size_t events_len,
+                             uint8_t *shown, size_t shown_len);
+
 /* A day sheet: a line for each stretch between restarts, up to 64. All zero is the empty sheet, for a box that was just opened.
    It holds no pointer: it may be written to a file beside its box and handed in again with it. */
 typedef struct {

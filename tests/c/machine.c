@@ -33,6 +33,7 @@ static void walk(const char *rule)
         jug_box box;
         jug_answer lamp = jug_open(TEXT(W), TEXT(rule), &box);
         uint64_t row = 0;
+        uint8_t events[12], one_by_one[24], shown[25] = {0};
         claim(machine[0] == lamp.value && machine[1] == lamp.count, "row 0 shows the opening");
         for (int n = 0; n < 12; n++) {
             dice = dice * 6364136223846793005u + 1442695040888963407u;
@@ -42,9 +43,33 @@ static void walk(const char *rule)
             jug_answer next = jug_machine_step(machine, size, 2, row, see, val, new_);
             claim(!next.number && next.value == lamp.value && next.count == lamp.count, "machine and box show the same");
             row = next.place;
+            events[n] = JUG_EVENT(see, val, new_);
+            one_by_one[n * 2] = (uint8_t)next.value;
+            one_by_one[n * 2 + 1] = (uint8_t)next.count;
         }
+        shown[24] = 0xee;
+        claim(is(jug_machine_steps(machine, size, 2, 0, events, 12, shown, sizeof shown), 0, row, 12, 0), "many events in one call lead where they lead one by one");
+        claim(!memcmp(shown, one_by_one, 24) && shown[24] == 0xee, "they show the same, and the byte behind stays");
         claim(same(jug_look(&box), lamp), "the box is asked by events alone");
     }
+}
+
+/* Events looked up many at a time: what is refused, and what is written before it. */
+static void many(size_t size)
+{
+    const uint8_t events[] = { JUG_EVENT(1, 1, 0), JUG_EVENT(0, 0, 1), JUG_EVENT(3, 4, 0), JUG_EVENT(0, 0, 0) };
+    uint8_t shown[8];
+    jug_answer first = jug_machine_step(machine, size, 2, 0, 1, 1, 0), second = jug_machine_step(machine, size, 2, first.place, 0, 0, 1);
+    memset(shown, 0xee, sizeof shown);
+    claim(is(jug_machine_steps(machine, size, 2, 0, events, 4, shown, 7), 11, 0, 0, 0) && shown[0] == 0xee, "a byte too few for what is shown is 11, and nothing is written");
+    claim(is(jug_machine_steps(machine, size, 4, 0, events, 4, shown, 8), 1, 0, 0, 0) && shown[0] == 0xee, "many events of four signals are 1");
+    claim(is(jug_machine_steps(machine, size - 1, 2, 0, events, 0, shown, 8), 9, 0, 0, 0), "a part of a row is 9, with no event too");
+    claim(is(jug_machine_steps(machine, size, 2, size / 20, events, 4, shown, 7), 9, size / 20, 0, 0), "a row beyond the last is 9, before 11");
+    claim(is(jug_machine_steps(machine, size, 2, 0, events, 4, shown, 8), 10, second.place, 2, 0), "an event that is refused is told behind those before it");
+    claim(shown[0] == first.value && shown[1] == first.count && shown[2] == second.value && shown[3] == second.count && shown[4] == 0xee, "and what they show is written, and no more");
+    claim(is(jug_machine_steps(machine, size, 2, second.place, events + 3, 1, shown, 2), 0, jug_machine_step(machine, size, 2, second.place, 0, 0, 0).place, 1, 0), "it may be left out");
+    claim(is(jug_machine_steps(machine, size, 2, 1, events, 0, shown, 0), 0, 1, 0, 0), "no event leads nowhere");
+    claim(JUG_EVENT(8, 0, 0) == 255 && JUG_EVENT(0, 8, 0) == 255 && JUG_EVENT(7, 7, 9) == 127, "what three signals have not is no event");
 }
 
 /* A ring of 64 states, all of which start: more than 256 sets of them are told apart by p0, which the first alone has. */
@@ -75,6 +100,7 @@ int main(void)
     claim(is(jug_machine_step(machine, size - 1, 2, 0, 0, 0, 0), 9, 0, 0, 0), "a part of a row is 9");
     claim(is(jug_machine_step(machine, size, 4, 0, 0, 0, 0), 1, 0, 0, 0), "four signals are 1");
     claim(is(jug_machine_step(machine, 0, 2, 0, 0, 0, 0), 9, 0, 0, 0), "no bytes are 9");
+    many(size);
     machine[2] = (uint8_t)whole.count;
     claim(is(jug_machine_step(machine, size, 2, 0, 0, 0, 0), 9, 0, 0, 0), "a cell beyond the rows is 9");
     claim(is(make(W, "Fp1", JUG_MACHINE_WORK, size - 1), 11, 0, 0, 0) && machine[0] == 0xee && words_are(0, 0, JUG_MACHINE_WORK), "a byte too few is 11, and the words end 0");

@@ -82,7 +82,7 @@ fn firsts_of(see: u16) -> u64
 }
 
 // Where in a row the two cells of an event begin; 56 where no three propositions allow it.
-fn first_of(event: Event) -> usize
+pub fn first_of(event: Event) -> usize
     ensures { λ r. ⌜ (r ≡ firstOf (event .see) (event .val)) × (r < 256) ⌝ }
 {
     if 7 < event.see {
@@ -96,7 +96,7 @@ fn first_of(event: Event) -> usize
 }
 
 // What the row that a cell holds shows, if it is one.
-fn stand_at(machine: &[u8], width: usize, rows: usize, cell: u8) -> Looked
+pub fn stand_at(machine: &[u8], width: usize, rows: usize, cell: u8) -> Looked
     requires { ⌜ (2 ≤ width) × (width ≤ 56) × (rows ≡ length (now machine) / width) ⌝ }
     ensures { λ r. ⌜ r ≡ standAt (now (machine .entry)) width cell ⌝ }
 {

@@ -7,6 +7,7 @@ use Rattle.answers.specs.declared.Answer.the-variants as Answers
 use Rattle.answers.specs.declared.Outcome.{Outcome}
 use Rattle.answers.specs.declared.Outcome.the-variants as Outcomes
 use Rattle.answers.specs.Paper.{numberOf, kindNumber}
+use Rattle.answers.specs.Chain as chain
 use Rattle.controller.specs.declared.Stop.{Stop}
 use Rattle.controller.specs.declared.LogAnswer.{LogAnswer}
 use Rattle.controller.specs.declared.LogAnswer.the-variants as Logs
@@ -21,6 +22,7 @@ use Rattle.day_writer.specs.declared.Wrote as days
 use Rattle.day_writer.specs.declared.Wrote.the-variants as Days
 use Rattle.fixed_machine.specs.declared.Made.{Made}
 use Rattle.fixed_machine.specs.declared.Made.the-variants as Mades
+use Rattle.machine_events.specs.declared.Through.{Through}
 use Rattle.machine_lookup.specs.declared.Looked.{Looked}
 use Rattle.machine_lookup.specs.declared.Looked.the-variants as Lookeds
 use Rattle.shown.specs.declared.Failing.{Failing}
@@ -99,6 +101,10 @@ madeAs (Mades.Refused r) = refusedBy r
 abbrev pub lookedAs : Looked → Answer
 lookedAs (Lookeds.Row s) = answerAs 0 (s .row) (s .left) (s .verdict)
 lookedAs (Lookeds.Refused r) = refusedBy r
+
+-- the place is the row behind the events that were looked up, also where the next one is refused, and these are counted
+abbrev pub throughAs : Through → Answer
+throughAs t = answerAs (chain.number (t .outcome)) (t .row) (t .done) 0
 
 -- ---- reports
 

@@ -11,6 +11,7 @@ use closing::Closed;
 use controller::LogAnswer;
 use controller::Stop;
 pub use machines::looked;
+pub use machines::looked_through;
 pub use machines::made;
 pub use reports::judged;
 pub use sheets::asked;

@@ -1,10 +1,12 @@
-// Fixed machines: one that was made, and the row that an event leads to.
+// Fixed machines: one that was made, the row that an event leads to, and where many lead.
 use crate::Answer;
 use crate::refused;
+use answers::Outcome;
 use fixed_machine::Made;
+use machine_events::Through;
 use machine_lookup::Looked;
 ghost use mathlib.Core.Path.{_≡_};
-ghost use Rattle.told.specs.Told.{madeAs, lookedAs};
+ghost use Rattle.told.specs.Told.{madeAs, lookedAs, throughAs};
 
 // The rows are counted, and the value is how many bytes a row has.
 pub fn made(made: Made) -> Answer
@@ -32,6 +34,30 @@ pub fn looked(looked: Looked) -> Answer
             place: stand.row as u64,
             count: stand.left as u64,
             value: stand.verdict as u64,
+        },
+    }
+}
+
+// The place is the row behind the events that were looked up, also where the next one is refused; and these are counted.
+pub fn looked_through(through: Through) -> Answer
+    ensures { λ r. ⌜ r ≡ throughAs through ⌝ }
+{
+    let outcome = through.outcome;
+    match outcome {
+        Outcome::Refused(refusal) => {
+            let by = refused(refusal);
+            Answer {
+                number: by.number,
+                place: through.row as u64,
+                count: through.done as u64,
+                value: 0,
+            }
+        }
+        Outcome::Accepted => Answer {
+            number: 0,
+            place: through.row as u64,
+            count: through.done as u64,
+            value: 0,
         },
     }
 }
