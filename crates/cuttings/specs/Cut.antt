@@ -1,40 +1,25 @@
 -- FOR EVERY CUTTING: scraps heard one after the other, by the call, lead to what their bytes lead to at once: verdicts, a refusal and where it points, and the radio at the end.
-use Prim.Native.Nat.{ℕ, _+_, _^_, _≤_, _<_, zero-le}
+use Prim.Native.Nat.{ℕ, _+_, _≤_, zero-le}
 use native.Mathlib.Omega.{arith}
-use mathlib.Core.Path.{_≡_, refl, sym, ap, ap₂, subst, _∙_}
-use mathlib.Core.Bool.{Bool, true, false, So, cond, false≢true}
-use mathlib.Core.Logic.{⊎-elim}
-use mathlib.Core.List.{List, [], _∷_, _++_, append-assoc, append-nil, foldl, foldl-append}
-use borrow.Author.Tests.{lt-ltb, le-leb, lt-leb, leb-true, ltb-true, le-ltb}
-use lib.Dec.{leb, ltb}
-use lib.ListN.{length, take, length-append, length-take}
-use Rattle.words.specs.Truth.{and-says}
-use Rattle.pairs.specs.declared.Pairs.{Pairs}
-use Rattle.answers.specs.declared.Kind.the-variants.{LogText, Value, Room, LogLength}
-use Rattle.answers.specs.declared.Refusal.{Refusal}
+use mathlib.Core.Path.{_≡_, refl, ap, subst, _∙_}
+use mathlib.Core.Bool.{Bool, true, false, cond}
+use mathlib.Core.List.{List, [], _∷_, _++_, append-assoc, foldl-append}
+use borrow.Author.Tests.{leb-true, ltb-true}
+use lib.Dec.{ltb}
+use lib.ListN.{length, length-append}
+use Rattle.answers.specs.declared.Kind.the-variants.{LogText}
 use Rattle.answers.specs.declared.Answer.{Answer}
 use Rattle.answers.specs.declared.Answer.the-variants as Answers
 use Rattle.answers.specs.declared.Outcome.{Outcome}
 use Rattle.answers.specs.declared.Outcome.the-variants.{Accepted, Refused}
 use Rattle.answers.specs.Paper.{numberOf, refusedAt}
-use Rattle.answers.specs.Chain.{andThen, unless}
-use Rattle.plant.specs.declared.Plant.{Plant}
-use Rattle.syntax.specs.declared.Rule.{Rule}
-use Rattle.text.specs.Cases.{below-or-beyond}
-use Rattle.text.specs.Number.{widthOf, width-between}
 use Rattle.log.specs.declared.Event.{Event}
 use Rattle.log.specs.Line.{line-fixed}
 use Rattle.log.specs.Read.{isNumbered, bytesIn, eventAt}
 use Rattle.sides.specs.declared.Monitor.{Monitor}
 use Rattle.monitor.specs.declared.Watched.{Watched}
-use Rattle.monitor.specs.Calls.{stepCall}
-use Rattle.radio.specs.declared.Radio.{Radio}
-use Rattle.radio.specs.Radio.{Ear, Heard, goodOf, begins, stopped, kept, answered, ended, byteHeard, hear, hearAll}
-use Rattle.radio.specs.Pieces.{Kept, hears-no-more}
-use Rattle.radio.specs.Kept.{padded, partOf, earOf, radioOf, heardBy, keptOk}
-use Rattle.radio.specs.Laws.{padded-back}
-use Rattle.radio.specs.Turning.{line-few}
-use Rattle.scraps.specs.Calls.{longest, linesIn, partFits, roomOutcome, Took, tookBy, heldOutcome, keptOutcome, takeOutcome, takeCall}
+use Rattle.radio.specs.Radio.{Ear, Heard, goodOf, begins, stopped, kept, answered, byteHeard, hear, hearAll}
+use Rattle.radio.specs.Pieces.{Kept}
 
 -- ---- the law of the fold
 

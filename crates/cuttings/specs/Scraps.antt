@@ -1,14 +1,10 @@
 -- THE CALL, SCRAP AFTER SCRAP: where each has room for its line ends and the log is not too long, the verdicts written and what is kept in the end are those of the bytes joined.
-use Prim.Native.Nat.{ℕ, _+_, _≤_, _<_, zero-le}
+use Prim.Native.Nat.{ℕ, _+_, _≤_}
 use native.Mathlib.Omega.{arith}
 use mathlib.Core.Path.{_≡_, refl, sym, ap, ap₂, subst, _∙_}
-use mathlib.Core.Bool.{Bool, true, false}
 use mathlib.Core.List.{List, [], _∷_, _++_, append-nil}
-use borrow.Author.Tests.{le-leb}
-use lib.Dec.{leb}
-use lib.ListN.{length, take, length-append}
+use lib.ListN.{length}
 use Rattle.pairs.specs.declared.Pairs.{Pairs}
-use Rattle.answers.specs.declared.Refusal.{Refusal}
 use Rattle.answers.specs.declared.Outcome.{Outcome}
 use Rattle.answers.specs.declared.Outcome.the-variants.{Accepted, Refused}
 use Rattle.plant.specs.declared.Plant.{Plant}
@@ -21,10 +17,10 @@ use Rattle.monitor.specs.Calls.{stepCall}
 use Rattle.radio.specs.declared.Radio.{Radio}
 use Rattle.radio.specs.Radio.{Ear, Heard, hearAll}
 use Rattle.radio.specs.Pieces.{hears-no-more}
-use Rattle.radio.specs.Kept.{padded, partOf, earOf, radioOf, heardBy}
+use Rattle.radio.specs.Kept.{earOf, radioOf, heardBy}
 use Rattle.radio.specs.Laws.{padded-back}
 use Rattle.radio.specs.Turning.{line-few}
-use Rattle.scraps.specs.Calls.{Took, tookBy, heardAs, takeOutcome, takeCall}
+use Rattle.scraps.specs.Calls.{Took, tookBy, takeOutcome, takeCall}
 use Rattle.cuttings.specs.Cut.{joined, behind, all-behind, Sound, sound-all}
 
 -- a scrap, and how many bytes its verdict buffer has

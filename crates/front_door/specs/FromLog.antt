@@ -1,7 +1,7 @@
 -- From texts to verdict bytes: the texts are opened, and the course of the log shows the rest. Here are the two claims of WholeLog proved, and that they leave no choice.
 use Prim.Native.Nat.{ℕ, suc, _≤_, _<_}
 use native.Mathlib.Omega.{arith}
-use mathlib.Core.Path.{_≡_, refl, sym, ap, ap₂, subst, _∙_}
+use mathlib.Core.Path.{_≡_, refl, sym, ap, subst, _∙_}
 use mathlib.Core.List.{List, [], _∷_, map}
 use mathlib.Core.Logic.{inl, ⊎-elim}
 use lib.ListN.{length, getD, take, length-map, List·getD-map}
@@ -9,11 +9,9 @@ use lib.Seq.{ext-getD}
 use borrow.Author.Tests.{le-leb, lt-leb}
 use Rattle.meaning.specs.Formula.{Formula}
 use Rattle.meaning.specs.Run as run
-use Rattle.meaning.specs.Event.{since}
 use Rattle.meaning.specs.Limits.{AcceptedTable}
 use Rattle.words.specs.Over.{over}
 use Rattle.text.specs.Number.{widthOf}
-use Rattle.text.specs.Lines.{lineStart}
 use Rattle.text.specs.LinesChoice.{firstOf}
 use Rattle.text.specs.Cases.{below-or-beyond}
 use Rattle.answers.specs.declared.Verdict.{Verdict}
@@ -26,7 +24,6 @@ use Rattle.answers.specs.declared.Outcome.{Outcome}
 use Rattle.answers.specs.declared.Outcome.the-variants.{Accepted, Refused}
 use Rattle.answers.specs.Paper.{numberOf, refusedAt}
 use Rattle.plant.specs.declared.Plant.{Plant}
-use Rattle.plant.specs.declared.Table.{Table}
 use Rattle.plant.specs.Read.{countsIn, tableOf, take-padded}
 use Rattle.plant.specs.Written.{tableSlots, tableText}
 use Rattle.text.specs.Written.{smallOf}
@@ -38,10 +35,9 @@ use Rattle.rule_text.specs.declared.RuleRead.{RuleRead}
 use Rattle.rule_text.specs.Reading.{ruleRead}
 use Rattle.rule.specs.Promises as rules
 use Rattle.log.specs.declared.Event.{Event}
-use Rattle.log.specs.declared.LogRead.{LogRead}
 use Rattle.log.specs.Line.{lineBytes}
-use Rattle.log.specs.Log.{nothing, gives}
-use Rattle.log.specs.Read.{bytesIn, logRead, wholeLines, eventAt}
+use Rattle.log.specs.Log.{gives}
+use Rattle.log.specs.Read.{bytesIn, logRead, eventAt}
 use Rattle.log.specs.Promises as logs
 use Rattle.checks.specs.Input.{Input, formula-is}
 use Rattle.live.specs.Prepare.{preparedOf}
@@ -56,8 +52,8 @@ use Rattle.controller.specs.declared.LogAnswer.{LogAnswer}
 use Rattle.controller.specs.declared.LogAnswer.the-variants.{Watched, Stopped}
 use Rattle.controller.specs.Whole.{Heard, logChecked, courseFrom, heardBy, heardIn, heardFrom, heardOf}
 use Rattle.lamp_lines.specs.Lines.{dark}
-use Rattle.transcript.specs.Said.{File, bytes, bytesOf}
-use Rattle.front_door.specs.FrontDoor.{SaysTable, SaysRule, SaysLog, TakenAt, RightAfter, lineOf}
+use Rattle.transcript.specs.Said.{bytes, bytesOf}
+use Rattle.front_door.specs.FrontDoor.{SaysTable, SaysLog, TakenAt, RightAfter, lineOf}
 use Rattle.front_door.specs.FrontDoor as door
 use Rattle.front_door.specs.FromTexts.{log-taken, passes-check, text-read, value, passes, Answer, refuses, gives as gives-rule, answer}
 use Rattle.front_door.specs.Lamps.{Taken, Gone, all-taken, stopped, Stop, illegal, stray, at, gone}

@@ -1,18 +1,18 @@
 -- From texts to lamps: the readers give what the texts say, and the calls show the rest. Here are the two claims of FrontDoor proved.
 use Prim.Native.Nat.{ℕ, _≤_, _<_}
 use native.Mathlib.Omega.{arith}
-use mathlib.Core.Path.{_≡_, refl, sym, ap, subst, _∙_}
+use mathlib.Core.Path.{_≡_, refl, ap, subst, _∙_}
 use mathlib.Core.Bool.{Bool, true, false, cond}
 use mathlib.Core.List.{List, _++_}
 use mathlib.Core.Logic.{_↔_, inl, inr, ⊎-elim}
 use lib.Dec.{ltb}
-use lib.ListN.{length, getD}
+use lib.ListN.{length}
 use Rattle.meaning.specs.Formula.{Formula}
 use Rattle.meaning.specs.Run as run
 use Rattle.meaning.specs.Limits.{AcceptedTable, mostNodes, mostParts}
 use Rattle.text.specs.Number.{widthOf}
 use Rattle.text.specs.Written.{smallOf}
-use Rattle.text.specs.Place.{Fills, OfForm, RefusedAt}
+use Rattle.text.specs.Place.{OfForm, RefusedAt}
 use Rattle.text.specs.Form.{Form}
 use Rattle.text.specs.Cases.{below-or-beyond}
 use Rattle.answers.specs.declared.Kind.{Kind}
@@ -45,7 +45,7 @@ use Rattle.log.specs.declared.Event.{Event}
 use Rattle.log.specs.Line.{lineBytes}
 use Rattle.log.specs.declared.LogRead.{LogRead}
 use Rattle.log.specs.Promises as logs
-use Rattle.log.specs.Promises.{AllWritable, small-read}
+use Rattle.log.specs.Promises.{small-read}
 use Rattle.log.specs.Forms.{first-is, lines-many}
 use Rattle.checks.specs.Input.{Input, given, formula-is}
 use Rattle.report.specs.Text.{lf}

@@ -38,7 +38,7 @@ use Rattle.checks.specs.Input.{Input}
 use Rattle.live.specs.Promises.{prepare-accepted}
 use Rattle.sides.specs.declared.Monitor.{Monitor}
 use Rattle.sides.specs.Held.{modelOf, lampIn}
-use Rattle.event_numbers.specs.Numbers.{numberOf, InTurn, inTurn, in-turn-says, eventOutcome}
+use Rattle.event_numbers.specs.Numbers.{numberOf, inTurn, in-turn-says, eventOutcome}
 use Rattle.monitor.specs.declared.Watched.{Watched}
 use Rattle.monitor.specs.Calls as monitor
 use Rattle.monitor.specs.Calls.{openCall, stepCall}
@@ -51,7 +51,7 @@ use Rattle.report.specs.Text.{startText}
 use Rattle.lamp_lines.specs.Lines.{dark, linesText, lines-same}
 use Rattle.transcript.specs.Said as said
 use Rattle.promises.specs.Demand.{Lit, lamp-right}
-use Rattle.front_door.specs.FrontDoor.{LegalAt, TakenAt, RightAfter, Ends, at-end, at-event, at-number, lineOf, Shows, refused}
+use Rattle.front_door.specs.FrontDoor.{LegalAt, TakenAt, RightAfter, Ends, at-end, at-event, at-number, lineOf, Shows}
 
 -- a log of w digits is accepted, and says these events
 pub record Taken (w : ℕ) (log : List ℕ) (es : List Event) : Type 0 where

@@ -35,7 +35,7 @@ use Rattle.log.specs.Log.{log-whole}
 use Rattle.log.specs.Promises.{log-out}
 use Rattle.report.specs.Text.{startText}
 use Rattle.lamp_lines.specs.Lines.{dark, linesText}
-use Rattle.transcript.specs.Said.{File, bytes, bytesOf}
+use Rattle.transcript.specs.Said.{File, bytesOf}
 use Rattle.promises.specs.Demand.{Lit}
 use Rattle.front_door.specs.RuleEnd.{stripped, end-said, end-dropped}
 use Rattle.front_door.specs.FrontDoor as door

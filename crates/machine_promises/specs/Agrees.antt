@@ -1,6 +1,6 @@
 -- Words of columns and logs of events: a log of accepted events without gaps leads the monitor where its columns lead the machine.
-use Prim.Native.Nat.{ℕ, _+_, _*_, _≤_, _<_}
-use mathlib.Core.Path.{_≡_, refl, sym, ap, subst, _∙_}
+use Prim.Native.Nat.{ℕ, _≤_}
+use mathlib.Core.Path.{_≡_, refl, sym, ap, _∙_}
 use mathlib.Core.Bool.{Bool, So}
 use mathlib.Core.List.{List, [], _∷_, map, foldl}
 use lib.ListN.{length, getD}
@@ -8,7 +8,7 @@ use Rattle.meaning.specs.Formula.{Formula}
 use Rattle.meaning.specs.Run as run
 use Rattle.meaning.specs.Event as meaning
 use Rattle.model.specs.LiveSet.{liveSet}
-use Rattle.model.specs.Checks.{eventOk, legal-says}
+use Rattle.model.specs.Checks.{legal-says}
 use Rattle.model.specs.Monitor as model
 use Rattle.answers.specs.declared.Lamp.{Lamp}
 use Rattle.answers.specs.declared.Answer.{Answer}
@@ -22,12 +22,11 @@ use Rattle.log.specs.Legal.{seenOf, legalOf, eventOf}
 use Rattle.log.specs.Log.{nothing}
 use Rattle.checks.specs.Input.{Input}
 use Rattle.sides.specs.Held.{lampIn}
-use Rattle.event_numbers.specs.Numbers.{numberOf}
 use Rattle.monitor.specs.declared.Watched.{Watched}
 use Rattle.monitor.proofs.Given.{legal-is}
-use Rattle.watching.specs.Filled.{expectedFrom, filled}
+use Rattle.watching.specs.Filled.{filled}
 use Rattle.watching.specs.Watching.{after, TakenFrom, AllTaken, after-model}
-use Rattle.columns.specs.Columns.{event, columnsOf, eventAt, countOf, columns-count, columns-at}
+use Rattle.columns.specs.Columns.{columnsOf, columns-count, columns-at}
 use Rattle.machines.specs.Machine.{Machine, run, Columns, none, more}
 use Rattle.machines.specs.Follow.{stepped}
 use Rattle.machines.specs.Made as machines

@@ -36,14 +36,14 @@ use Rattle.sides.specs.Held.{lampIn}
 use Rattle.event_numbers.specs.Numbers.{numberOf, missingOf, unseen}
 use Rattle.monitor.specs.declared.Watched.{Watched}
 use Rattle.watching.specs.Filled.{filledFrom, filled}
-use Rattle.watching.specs.Watching.{after, TakenFrom, AllTaken, after-model}
+use Rattle.watching.specs.Watching.{after, AllTaken, after-model}
 use Rattle.columns.specs.Columns.{columnsOf, countOf, columns-count}
 use Rattle.machines.specs.Machine.{Machine, run, Columns}
 use Rattle.machines.specs.Alike.{run-inside, numbered-reached}
 use Rattle.machines.specs.Bytes.{tableByte}
 use Rattle.machines.specs.Explored.{MoreThan}
 use Rattle.machines.specs.Follow.{stepped}
-use Rattle.joined.specs.Written.{written, written-at, written-length}
+use Rattle.joined.specs.Written.{written-at, written-length}
 use Rattle.explored.specs.States.{few-left}
 use Rattle.fixed_machine.specs.declared.Made.{Made}
 use Rattle.fixed_machine.specs.declared.Made.the-variants as Mades

@@ -1,7 +1,7 @@
 -- WHAT IS PROMISED OF `make_machine`. What it answers and leaves is determined: `one-answer`. 15 exactly if more than 256 monitor states are reached: `fifteen-exactly`; the words end 0: `words-end-zero`.
 -- Each row is reached, and no two answer alike: `rows-reached`, `rows-differ`; no machine that answers alike has fewer rows: `none-smaller`. That machine and stepping agree is in Agrees.
 use Prim.Native.Nat.{ℕ, _+_, _*_, _≤_, _<_}
-use mathlib.Core.Path.{_≡_, refl, sym, ap, ap₂, subst, _∙_}
+use mathlib.Core.Path.{_≡_, sym, ap, subst, _∙_}
 use mathlib.Core.Logic.{_↔_}
 use mathlib.Core.Bool.{Bool, true, false}
 use mathlib.Core.List.{List}
@@ -12,9 +12,7 @@ use Rattle.meaning.specs.Formula.{Formula}
 use Rattle.meaning.specs.Run as run
 use Rattle.model.specs.LiveSet.{liveSet}
 use Rattle.model.specs.Monitor as model
-use Rattle.answers.specs.declared.Kind.{Kind}
-use Rattle.answers.specs.declared.Kind.the-variants.{Room, Rows}
-use Rattle.answers.specs.declared.Refusal.{Refusal}
+use Rattle.answers.specs.declared.Kind.the-variants.{Rows}
 use Rattle.answers.specs.declared.Outcome.{Outcome}
 use Rattle.answers.specs.declared.Outcome.the-variants.{Accepted, Refused}
 use Rattle.answers.specs.Paper.{refusedAt, kindNumber}
@@ -32,7 +30,7 @@ use Rattle.machines.specs.Made as machines
 use Rattle.joined.specs.Written.{written, written-same}
 use Rattle.fixed_machine.specs.declared.Made.{Made}
 use Rattle.fixed_machine.specs.declared.Made.the-variants as Mades
-use Rattle.fixed_machine.specs.Worked.{LaidBy, Laid, Worked, over, made}
+use Rattle.fixed_machine.specs.Worked.{LaidBy, Laid, over, made}
 use Rattle.fixed_machine.specs.Machined.{stepAt, shownIn, WorkedFor, MachinedAs, machineOutcome, Machined}
 use Rattle.machine_promises.specs.Agrees.{MadeFor}
 

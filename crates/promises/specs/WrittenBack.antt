@@ -5,14 +5,12 @@ use mathlib.Core.List.{List, map}
 use lib.ListN.{length, take}
 use denote.Ref.{now}
 use Rattle.words.specs.Over.{over}
-use Rattle.answers.specs.declared.Outcome.{Outcome}
 use Rattle.answers.specs.declared.Outcome.the-variants.{Accepted}
 use Rattle.plant.specs.declared.Plant.{Plant}
 use Rattle.plant.specs.declared.Table.{Table}
 use Rattle.plant.specs.declared.TableRead.{TableRead}
 use Rattle.plant.specs.Read.{tableRead}
 use Rattle.plant_writer.specs.declared.Length.{Length}
-use Rattle.plant_writer.specs.declared.Wrote.{Wrote}
 use Rattle.plant_writer.specs.declared.Wrote.the-variants.{Text}
 use Rattle.plant_writer.specs.Writing.{writeAnswer, writeBuffer}
 use Rattle.plant_writer.specs.Lower.{lower}

@@ -61,32 +61,7 @@ use Rattle.monitor.specs.Calls.{watched, lit, checkedOf, openCall, monitorFits,
 use Rattle.witness.specs.declared.Witnessed.{Witnessed}
 use Rattle.witness.specs.Calls.{AnsweredAs, Answered, askedOf, witnessOutcome}
 use Rattle.witness.specs.OnPaper.{witnessed}
-use Rattle.refusals.specs.Causes.{
-  Rows,
-  end,
-  row,
-  First,
-  Because,
-  NoCause,
-  Taken,
-  Call,
-  prepare,
-  opening,
-  look,
-  step,
-  witness,
-  table,
-  formula,
-  ofTable,
-  NoRule,
-  PairBeyond,
-  StateBeyond,
-  OutOfTurn,
-  NoLive,
-  causes,
-  printCauses,
-  writeCauses,
-}
+use Rattle.refusals.specs.Causes.{Rows, row, First, Because, NoCause, Taken, Call, prepare, opening, look, step, witness, table, formula, ofTable, NoRule, PairBeyond, StateBeyond, OutOfTurn, NoLive, causes, printCauses, writeCauses}
 use Rattle.refusals.specs.Judged.{
   first-one,
   Judged,
