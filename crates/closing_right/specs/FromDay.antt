@@ -1,6 +1,6 @@
 -- From texts to a closing verdict: the texts are opened, the course of the log shows the last verdict, and going back over the lines what is presumed. Here are the two claims of DayEnd
 -- proved.
-use Prim.Native.Nat.{ℕ, _/_, _≤_, _<_}
+use Prim.Native.Nat.{ℕ, _≤_, _<_}
 use native.Mathlib.Omega.{arith}
 use native.Mathlib.Nat.{div-le-self}
 use mathlib.Core.Path.{_≡_, refl, sym, ap, ap₂, subst, _∙_}
@@ -16,8 +16,6 @@ use Rattle.meaning.specs.Run as run
 use Rattle.meaning.specs.Event.{since}
 use Rattle.meaning.specs.Limits.{AcceptedTable}
 use Rattle.text.specs.Number.{widthOf, width-between}
-use Rattle.text.specs.Lines.{lineStart}
-use Rattle.text.specs.LinesChoice.{firstOf}
 use Rattle.answers.specs.declared.Verdict.{Verdict}
 use Rattle.answers.specs.declared.Verdict.the-variants as Verdicts
 use Rattle.answers.specs.declared.Lamp.{Lamp}
@@ -27,13 +25,12 @@ use Rattle.answers.specs.declared.Outcome.{Outcome}
 use Rattle.answers.specs.declared.Outcome.the-variants as Outcomes
 use Rattle.answers.specs.Paper.{numberOf, refusedAt}
 use Rattle.answers.specs.Chain.{andThen, unless}
-use Rattle.plant.specs.Read.{countsIn, tableOf}
+use Rattle.plant.specs.Read.{countsIn}
 use Rattle.syntax.specs.Value.{ruleOf}
 use Rattle.syntax.proofs.Printed.{below-more}
 use Rattle.log.specs.declared.Event.{Event}
 use Rattle.log.specs.declared.LogRead.{LogRead}
-use Rattle.log.specs.Line.{lineBytes}
-use Rattle.log.specs.Log.{nothing, gives}
+use Rattle.log.specs.Log.{nothing}
 use Rattle.log.specs.Read.{bytesIn, logRead, eventAt, wholeLines}
 use Rattle.log.specs.Promises.{accepted-text}
 use Rattle.log.specs.Forms.{lines-many}

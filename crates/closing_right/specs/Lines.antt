@@ -1,13 +1,12 @@
 -- The events since the last restart are the log's lines from there on, unless some were lost between them; and then one of them saw nothing.
 use Prim.Native.Nat.{ℕ, zero, suc, _+_, _-_, _≤_, _<_}
 use native.Mathlib.Omega.{arith}
-use native.Mathlib.Nat.{add-zero}
-use mathlib.Core.Path.{_≡_, refl, sym, ap, ap₂, subst, _∙_}
-use mathlib.Core.Bool.{Bool, true, false, So, cond, false≢true}
+use mathlib.Core.Path.{_≡_, refl, sym, ap, subst, _∙_}
+use mathlib.Core.Bool.{Bool, true, false, cond}
 use mathlib.Core.List.{List, [], _∷_, _++_, foldl, foldl-append, append-assoc, append-nil}
 use mathlib.Core.Logic.{⊎-elim}
 use lib.ListN.{length, getD, take, drop, replicate, length-append, List·getD-append}
-use lib.Seq.{take-suc, drop-append-le, drop-append-seam, getD-append-add, getD-append-seam, getD-at, length-take-le}
+use lib.Seq.{take-suc, drop-append-le, drop-append-seam, getD-append-seam, getD-at}
 use Rattle.meaning.specs.Event as meaning
 use Rattle.meaning.specs.Event.{Seen, History, seenAt, grow, since, none}
 use Rattle.meaning.specs.Event.{nothing as unseen-one}
@@ -15,8 +14,8 @@ use Rattle.words.specs.Tests.{below-cases}
 use Rattle.log.specs.declared.Event.{Event}
 use Rattle.log.specs.Legal.{seenOf, eventOf}
 use Rattle.log.specs.Log.{nothing}
-use Rattle.event_numbers.specs.Numbers.{numberOf, missingOf, unseen, brings}
-use Rattle.watching.specs.Filled.{expectedFrom, seenFrom, filled, expectedAt, numberAt, filled-more}
+use Rattle.event_numbers.specs.Numbers.{missingOf, unseen, brings}
+use Rattle.watching.specs.Filled.{seenFrom, filled, expectedAt, numberAt, filled-more}
 use Rattle.last_stretch.specs.Stretch.{begins}
 use Rattle.closing_right.specs.DayEnd.{stretch}
 

@@ -3,12 +3,11 @@ use Prim.Native.Nat.{ℕ, suc}
 use native.Mathlib.Nat.{le-refl}
 use native.Mathlib.Omega.{arith}
 use mathlib.Core.Path.{refl}
-use mathlib.Core.Bool.{true, false}
 use mathlib.Core.Logic.{_⊎_, inl, inr, ⊎-map, ⊎-elim}
 use Rattle.meaning.specs.Formula.{Formula, never, always, prop, neg, next, finally, globally, until, release, and, or, implies, Word, Holds}
 use Rattle.meaning.specs.Run.{Plant}
 use Rattle.meaning.specs.Event.{History}
-use Rattle.meaning.specs.Verdict.{Possible, Right}
+use Rattle.meaning.specs.Verdict.{Right}
 use Rattle.within.specs.Seen.{Uses}
 
 -- some proposition occurs in the rule

@@ -3,11 +3,11 @@ use Prim.Native.Nat.{ℕ, zero, suc, _+_, _-_, _^_, _≤_, _<_}
 use native.Mathlib.Omega.{arith}
 use native.Mathlib.Nat.{lt-of-lt-of-le, le-trans}
 use native.Mathlib.Decide.{decLt}
-use mathlib.Core.Path.{_≡_, refl, sym, ap, ap₂, subst, _∙_}
+use mathlib.Core.Path.{_≡_, refl, sym, ap, subst, _∙_}
 use mathlib.Core.Logic.{_↔_, _⊎_, inl, inr, Iff·trans, ⊎-elim}
-use mathlib.Core.Bool.{Bool, true, false, So, _&&_, cond, false≢true}
-use mathlib.Core.List.{List, [], _∷_, _++_}
-use lib.Dec.{eqb, ltb, leb}
+use mathlib.Core.Bool.{Bool, true, false, So, cond, false≢true}
+use mathlib.Core.List.{List, [], _∷_}
+use lib.Dec.{eqb, ltb}
 use lib.ListN.{length, getD, take}
 use lib.Seq.{take-suc, take-length}
 use native.Mathlib.Nat.{pow-le-pow-right}
@@ -17,10 +17,9 @@ use Rattle.meaning.specs.Says.{Says}
 use Rattle.meaning.specs.Formula.{Formula, size}
 use Rattle.meaning.specs.Event.{Seen, seenAt, since}
 use Rattle.meaning.specs.Event.{nothing as unseen-one}
-use Rattle.words.specs.Truth.{and-says, says-and}
-use Rattle.words.specs.Tests.{lt-says, below-cases}
+use Rattle.words.specs.Truth.{and-says}
+use Rattle.words.specs.Tests.{lt-says}
 use Rattle.words.specs.Laws.{bit-zero}
-use Rattle.text.specs.LinesChoice.{firstOf}
 use Rattle.syntax.specs.declared.Rule.{Rule}
 use Rattle.syntax.specs.Print.{Below}
 use Rattle.syntax.specs.Value.{ruleOf}
@@ -28,12 +27,10 @@ use Rattle.log.specs.declared.Event.{Event}
 use Rattle.log.specs.declared.Num.{Num}
 use Rattle.log.specs.declared.Num.the-variants.{Expected, Given}
 use Rattle.log.specs.Legal.{seenOf}
-use Rattle.log.specs.Log.{nothing, gives}
+use Rattle.log.specs.Log.{nothing}
 use Rattle.log.specs.Lead.{isGiven}
 use Rattle.log.specs.Promises.{AllWritable}
-use Rattle.event_numbers.specs.Numbers.{numberOf, missingOf}
 use Rattle.watching.specs.Filled.{expectedFrom, seenFrom, filled, expectedAt, numberAt, expected-append}
-use Rattle.within.specs.Within.{HoldsWithin}
 use Rattle.within.specs.Seen.{Uses, holds-same}
 use Rattle.within.specs.Props.{propsOf, seesAll, sees-say}
 use Rattle.within.specs.Turn.{aheadFrom, stackFrom}
@@ -44,7 +41,7 @@ use Rattle.last_stretch.specs.declared.Found.{Found}
 use Rattle.last_stretch.specs.Stretch.{joins, begins, furtherOf, backFrom, stretchOf, foundOf}
 use Rattle.closing.specs.Closing.{closingNumber, presumedBy, presumedOf}
 use Rattle.closing_right.specs.DayEnd.{stretch, Ready, Met, Presumed}
-use Rattle.closing_right.specs.Lines.{stretchAt, gap, NoGap, AreLines, begins-low, begins-some, are-lines, no-gap}
+use Rattle.closing_right.specs.Lines.{stretchAt, gap, AreLines, begins-low, begins-some, are-lines, no-gap}
 
 -- ---- going back
 

@@ -20,7 +20,7 @@ use Rattle.closing.specs.declared.Closed.{Closed}
 use Rattle.closing.specs.declared.Closed.the-variants.{At, Stopped, Refused}
 use Rattle.closing.specs.Closing.{closingNumber, ofVerdict, presumedOf, secondOf, closedAt}
 use Rattle.closing.proofs.close_log.Reads as close-log
-use Rattle.closing_right.specs.DayEnd.{Ready, Met, Presumed}
+use Rattle.closing_right.specs.DayEnd.{Presumed}
 
 -- the number of a closing verdict, and 6 where there is none
 abbrev told : Closed → ℕ

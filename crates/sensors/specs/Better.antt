@@ -8,8 +8,6 @@ use lib.ListN.{length, getD, take, replicate, length-map, List·getD-map, List·
 use Rattle.meaning.specs.Formula.{Formula}
 use Rattle.meaning.specs.Run as run
 use Rattle.meaning.specs.Event.{History, since}
-use Rattle.meaning.specs.Limits.{AcceptedTable, Legal}
-use Rattle.words.specs.Over.{over}
 use Rattle.theory.specs.Narrow.{Narrower}
 use Rattle.model.specs.LiveSet.{liveSet}
 use Rattle.model.specs.Monitor as model
@@ -22,8 +20,7 @@ use Rattle.answers.specs.Paper as paper
 use Rattle.syntax.specs.declared.Rule.{Rule}
 use Rattle.syntax.specs.Value.{formulaOf}
 use Rattle.log.specs.declared.Event.{Event}
-use Rattle.log.specs.Legal.{seenOf, eventOf}
-use Rattle.log.specs.Log.{nothing}
+use Rattle.log.specs.Legal.{eventOf}
 use Rattle.sides.specs.Held.{lampIn}
 use Rattle.event_numbers.specs.Numbers.{numberOf, missingOf, unseen}
 use Rattle.monitor.specs.declared.Watched.{Watched}
@@ -34,11 +31,11 @@ use Rattle.controller.specs.declared.LogAnswer.{LogAnswer}
 use Rattle.transcript.specs.Said.{bytes}
 use Rattle.promises.specs.Demand.{Lit, lamp-right}
 use Rattle.front_door.specs.FrontDoor as door
-use Rattle.front_door.specs.FrontDoor.{SaysTable, SaysLog, TakenAt, Ends, Shows}
+use Rattle.front_door.specs.FrontDoor.{SaysLog, Ends, Shows}
 use Rattle.front_door.specs.WholeLog as whole
 use Rattle.front_door.specs.WholeLog.{VerdictAfter, Closes, Watches, SaysBare, bufferOf, answerOf}
 use Rattle.front_door.specs.FromLog.{whole-log-right}
-use Rattle.sensors.specs.Sensors.{eventAt, SeesAll, Better, AcceptedLog, Smaller, AsMuch, NoWorse, Lent, tableOf, AcceptedWith, answerAt, BetterSensor, SmallerTable, byteAt, BetterBytes, SmallerBytes, lampAt, BetterLines, SmallerLines}
+use Rattle.sensors.specs.Sensors.{eventAt, SeesAll, Better, AcceptedLog, Smaller, Lent, tableOf, AcceptedWith, answerAt, BetterSensor, SmallerTable, BetterBytes, SmallerBytes, lampAt, BetterLines, SmallerLines}
 use Rattle.sensors.specs.Fewer.{Fewer, right-narrows, lit-narrows, finer-fewer, smaller-fewer}
 
 -- ---- a better sensor, with the unseen events put in

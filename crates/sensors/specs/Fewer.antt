@@ -3,16 +3,16 @@ use Prim.Native.Nat.{ℕ, zero, suc, _≤_, _<_}
 use native.Mathlib.Omega.{arith}
 use mathlib.Core.Path.{_≡_, refl, sym, ap, subst, _∙_}
 use mathlib.Core.Logic.{_⊎_, inl, inr}
-use mathlib.Core.Bool.{Bool, true, false, So, not}
+use mathlib.Core.Bool.{Bool, true, false, not}
 use mathlib.Core.List.{List, Forall₂, Forall₂·nil, Forall₂·cons}
 use lib.ListN.{length}
 use Rattle.words.specs.Below.{countBelow}
 use Rattle.graphs.specs.Count.{count-subset}
-use Rattle.meaning.specs.Says.{Says, Kept}
+use Rattle.meaning.specs.Says.{Kept}
 use Rattle.meaning.specs.Formula.{Formula, Holds}
-use Rattle.meaning.specs.Run.{Plant, Lasso, stateAt, labelOf, labelsAlong}
-use Rattle.meaning.specs.Event.{Seen, History, seenAt, now}
-use Rattle.meaning.specs.Verdict.{Agreeing, Chosen, Possible, CanBe, Sure, Right}
+use Rattle.meaning.specs.Run.{Plant, Lasso, stateAt, labelsAlong}
+use Rattle.meaning.specs.Event.{Seen, History, seenAt}
+use Rattle.meaning.specs.Verdict.{Agreeing, Possible, CanBe, Sure, Right}
 use Rattle.theory.specs.Narrow.{Narrower, Finer, FinerHistory}
 use Rattle.answers.specs.declared.Verdict.{Verdict}
 use Rattle.answers.specs.declared.Verdict.the-variants.{Inconclusive, True, False, OutOfModel}

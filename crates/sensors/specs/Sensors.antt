@@ -27,7 +27,7 @@ use Rattle.watching.specs.Filled.{numberAt}
 use Rattle.watching.specs.Watching.{after}
 use Rattle.lamp_lines.specs.Lines.{dark}
 use Rattle.transcript.specs.Said.{File, bytes, outputOf}
-use Rattle.front_door.specs.FrontDoor.{SaysTable, SaysRule, SaysLog, TakenAt, Shows}
+use Rattle.front_door.specs.FrontDoor.{SaysTable, SaysLog, TakenAt, Shows}
 use Rattle.front_door.specs.WholeLog.{SaysBare, bufferOf}
 
 -- ---- two logs
