@@ -96,6 +96,10 @@ unfoldable pub monitorWord : Monitor → ℕ → ℕ
 monitorWord m p =
     cond (eqb p 0) (cond (m .seen) 1 0) (cond (eqb p 1) (m .expected) (cond (ltb p 66) (getD (m .keeps .words) (p - 2) 0) (getD (m .breaks .words) (p - 66) 0)))
 
+-- a monitor by its parts, as they are lent
+abbrev pub monitorBy : Bool → ℕ → List ℕ → List ℕ → Monitor
+monitorBy seen expected keeps breaks = record { seen = seen; keeps = record { words = keeps }; breaks = record { words = breaks }; expected = expected }
+
 -- word p of a box that holds this
 unfoldable pub heldWord : Held → ℕ → ℕ
 heldWord h p =

@@ -7,7 +7,7 @@ use syntax::Op;
 use syntax::Rule;
 ghost use mathlib.Core.Path.{_≡_};
 ghost use Prim.Native.Nat.{_<_};
-ghost use Rattle.slate.specs.Box.{codeOf, plantWord, tableWord, ruleWord, monitorWord, heldWord, storedOf, monitorWords, splicedWord, withMonitor};
+ghost use Rattle.slate.specs.Box.{codeOf, plantWord, tableWord, ruleWord, monitorWord, monitorBy, heldWord, storedOf, monitorWords, splicedWord, withMonitor};
 
 // The code of an operator.
 fn code_of(op: Op) -> u64
@@ -132,13 +132,44 @@ pub fn stored(held: Held) -> [u64; 384]
     words
 }
 
-// The words of a monitor, made once.
+// The same of a monitor whose sets are lent.
+fn lent_word<'a>(
+    seen: bool,
+    expected: u64,
+    keeps: &'a [u64; 64],
+    breaks: &'a [u64; 64],
+    at: usize,
+) -> u64
+    requires { ⌜ at < 130 ⌝ }
+    ensures { λ r. ⌜ r ≡ monitorWord (monitorBy seen expected (now (keeps .entry)) (now (breaks .entry))) at ⌝ }
+{
+    if at == 0 {
+        return if seen { 1 } else { 0 };
+    }
+    if at == 1 {
+        return expected;
+    }
+    if at < 66 {
+        return keeps[at - 2];
+    }
+    breaks[at - 66]
+}
+
+// The words of a monitor, made once. Its sets are lent: a monitor handed over by value would be copied for each word.
 fn monitor_words(monitor: Monitor) -> [u64; 130]
     ensures { λ r. ⌜ r ≡ monitorWords monitor ⌝ }
 {
+    let keeps = monitor.keeps;
+    let breaks = monitor.breaks;
     let mut words = [0u64; 130];
     for at in 0..130 {
-        words[at] = monitor_word(monitor, at);
+        words[at] = lent_word(
+            monitor.seen,
+            monitor.expected,
+            &keeps.words,
+            &breaks.words,
+            at,
+        );
     }
     words
 }

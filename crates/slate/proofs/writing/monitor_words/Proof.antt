@@ -11,17 +11,17 @@ use Rattle.slate.proofs.writing.monitor_words.Statement.{statement}
 use Rattle.slate.proofs.writing.monitor_words.Tie as tie
 
 abbrev Inv-loop : tie.InvT-loop
-Inv-loop monitor words₀ at₀ words at = (at ≤ 130) × (words ≡ filled 130 at (monitorWord monitor))
+Inv-loop monitor keeps breaks words₀ at₀ words at = (at ≤ 130) × (words ≡ filled 130 at (monitorWord monitor))
 
 abbrev μ-loop : tie.MeasureT-loop
-μ-loop monitor words₀ at₀ words at = 130 - at
+μ-loop monitor keeps breaks words₀ at₀ words at = 130 - at
 
 loop-holds : tie.Need-loop-holds Inv-loop μ-loop
 unfolding filled
 loop-holds c = (zero-le, refl)
 
 loop-again : tie.Need-loop-again Inv-loop μ-loop
-loop-again c = (omega arith, filled-turn _ _ _ _ _ (c .before .before .loop .inv .1) (c .monitor-word .ensures))
+loop-again c = (omega arith, filled-turn _ _ _ _ _ (c .before .before .before .before .before .before .loop .inv .1) (c .lent-word .ensures))
 
 returns : tie.Need-returns Inv-loop μ-loop
 unfolding monitorWords
