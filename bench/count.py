@@ -35,9 +35,9 @@ def whole(words, folder):
 
 
 def lamp(words, folder):
-    """Those of `lamp` alone, whatever its crate is, and whatever the compiler put behind its name."""
+    """Those of `lamp` alone, by value or of lent sets, whatever its crate is, and whatever the compiler put behind its name."""
     counts, said = counted(words, folder)
-    return sum(count for count, name in counts if name.split('::')[-1].split('.')[0] == 'lamp') / 1e3, said
+    return sum(count for count, name in counts if name.split('::')[-1].split('.')[0] in ('lamp', 'lamp_of')) / 1e3, said
 
 
 def witness_counts(words):
