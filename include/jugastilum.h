@@ -50,7 +50,8 @@ jug_answer jug_watch_log(const uint8_t *table, size_t table_len, const uint8_t *
    Accepted: `value` = verdict, `count` = states in which the plant can be. Refused by 3, 2 (table), 4 to 8 (rule): the box stays as it was. */
 jug_answer jug_open(const uint8_t *table, size_t table_len, const uint8_t *rule, size_t rule_len, jug_box *box);
 
-/* What the lamp shows now. Accepted: as jug_open. Refused by 1, 2, 9: the box holds nothing that was opened. */
+/* What the lamp shows now. Accepted: as jug_open. Refused by 1, 2, 9: the box holds no table, no rule or no monitor of theirs. What was prepared is not looked at here:
+   jug_step does that. */
 jug_answer jug_look(const jug_box *box);
 
 /* One event: `see` has the signals that were seen, `val` those of them that were on, `new_` is 0, or else the rule is judged anew from this event.
