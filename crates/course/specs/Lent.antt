@@ -3,14 +3,15 @@ use Prim.Native.Nat.{ℕ, zero, suc, _+_}
 use mathlib.Core.Path.{_≡_, refl, sym, ap, ap₂, _∙_}
 use mathlib.Core.Bool.{Bool, true, false, cond}
 use mathlib.Core.List.{List}
+use Rattle.pairs.specs.Sets.{joinOf}
 use Rattle.moves.specs.Image.{imageOf}
 use Rattle.leads.specs.Halves.{fromIn, toIn}
 use Rattle.labels.specs.Labels.{agreeingOf}
 use Rattle.log.specs.declared.Event.{Event}
 use Rattle.event_numbers.specs.Numbers.{numberOf, missingOf}
 use Rattle.sides.specs.declared.Monitor.{Monitor}
-use Rattle.sides.specs.Sides.{sidesOf, keptOf, movedBy, restartedBy, advancedBy, caughtUpBy, cameBy, expecting}
-use Rattle.sides.specs.SidesRight.{advanced-next, came-at-once}
+use Rattle.sides.specs.Sides.{sidesOf, splitOf, keptOf, movedBy, restartedBy, advancedBy, caughtUpBy, cameBy, expecting}
+use Rattle.sides.specs.SidesRight.{restarted-whole, advanced-new, advanced-next, came-at-once}
 
 module _ (label next leave enter holds : List ℕ) (count : ℕ) (live : List ℕ) where
   -- whatever the case is, the number stays, and an event came
@@ -44,6 +45,14 @@ module _ (label next leave enter holds : List ℕ) (count : ℕ) (live : List �
     unfolding movedBy
     came-moved a none seen new ek eb =
         came-at-once label next leave enter count live m holds e k none (advanced-next label next leave enter holds count live m e a seen new (ap₂ (sidesOf (m .expected) true) ek eb))
+
+    -- or moved as one and split
+    pub came-split : {agree : ℕ} {keeps breaks : List ℕ} → agree ≡ agreeingOf label (e .see) (e .val) → k ≡ 0 → m .seen ≡ true → e .new ≡ true
+        → let reached = imageOf next (joinOf (m .keeps .words) (m .breaks .words)) (fromIn leave) (toIn enter) count live agree in
+        keeps ≡ splitOf reached agree holds true → breaks ≡ splitOf reached agree holds false → sidesOf (m .expected) true keeps breaks ≡ came
+    came-split {agree} a none seen new ek eb =
+        came-at-once label next leave enter count live m holds e k none
+        (advanced-new label next leave enter holds count live m e a seen new (restarted-whole next leave enter holds count live m agree refl refl ek eb))
 
     -- or all that came stored
     pub came-stored : {x : Monitor} → x ≡ came → sidesOf (m .expected) true (x .keeps .words) (x .breaks .words) ≡ came

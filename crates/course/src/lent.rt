@@ -9,15 +9,17 @@ use leads::images::image;
 use log::Event;
 use pairs::Pairs;
 use sides::Monitor;
+use sides::opening::split;
 ghost use mathlib.Core.Path.{_≡_};
-ghost use mathlib.Core.Bool.{true};
+ghost use mathlib.Core.Bool.{true, false};
 ghost use Prim.Native.Nat.{_+_, _^_, _≤_, _<_};
 ghost use lib.ListN.{length};
+ghost use Rattle.pairs.specs.Sets.{joinOf};
 ghost use Rattle.moves.specs.Image.{imageOf};
 ghost use Rattle.leads.specs.Halves.{fromIn, toIn};
 ghost use Rattle.event_numbers.specs.Numbers.{numberOf, missingOf};
 ghost use Rattle.sides.specs.Held.{modelOf, lampIn};
-ghost use Rattle.sides.specs.Sides.{sidesOf, cameBy};
+ghost use Rattle.sides.specs.Sides.{splitOf, sidesOf, cameBy};
 
 // A set of pairs, moved.
 fn move_set<'a>(
@@ -35,6 +37,36 @@ fn move_set<'a>(
     let moved = image(next, leave, enter, count, held, live, agree);
     let words = moved.words;
     *held = words;
+}
+
+// Both sets moved as one, and split anew by where the rule holds: a restart.
+fn restart_sets<'a>(
+    next: &[u64],
+    leave: &'a [u64; 1024],
+    enter: &'a [u64; 1024],
+    holds: &'a [u64; 64],
+    count: usize,
+    live: &[u64; 64],
+    agree: u64,
+    keeps: &mut [u64; 64],
+    breaks: &mut [u64; 64],
+)
+    requires { ⌜ count ≤ 64 ⌝ }
+    ensures keeps { λ _. ⌜ now (keeps .exit) ≡ splitOf (imageOf (now (next .entry)) (joinOf (now (keeps .entry)) (now (breaks .entry)))
+        (fromIn (now (leave .entry))) (toIn (now (enter .entry))) count (now (live .entry)) agree) agree (now (holds .entry)) true ⌝ }
+    ensures breaks { λ _. ⌜ now (breaks .exit) ≡ splitOf (imageOf (now (next .entry)) (joinOf (now (keeps .entry)) (now (breaks .entry)))
+        (fromIn (now (leave .entry))) (toIn (now (enter .entry))) count (now (live .entry)) agree) agree (now (holds .entry)) false ⌝ }
+{
+    let kept = Pairs { words: *keeps };
+    let broken = Pairs { words: *breaks };
+    let both = kept.join(broken);
+    let reached = image(next, leave, enter, count, &both.words, live, agree);
+    let keeping = split(&reached.words, agree, holds, true);
+    let breaking = split(&reached.words, agree, holds, false);
+    let keeping_words = keeping.words;
+    let breaking_words = breaking.words;
+    *keeps = keeping_words;
+    *breaks = breaking_words;
 }
 
 // Any event, by value: what is then held is stored.
@@ -76,8 +108,8 @@ fn take_whole<'a>(
     *breaks = broken_words;
 }
 
-// An event whose number is in turn, behind those that are missing before it; its number is answered. Mostly nothing is missing and it is no restart: then both
-// sets move.
+// An event whose number is in turn, behind those that are missing before it; its number is answered. Mostly nothing is missing and it is not the first: then both
+// sets move, at a restart as one.
 pub fn take_lent<'a>(
     label: &[u16],
     next: &[u64],
@@ -101,8 +133,12 @@ pub fn take_lent<'a>(
     let num = event.num;
     let number = number_of(num, expected);
     let gap = missing(seen, expected, number);
-    if (gap == 0) & (seen & !event.new) {
+    if (gap == 0) & seen {
         let agree = labels::agreeing(label, event.see, event.val);
+        if event.new {
+            restart_sets(next, leave, enter, holds, count, live, agree, keeps, breaks);
+            return number;
+        }
         move_set(next, leave, enter, count, live, agree, keeps);
         move_set(next, leave, enter, count, live, agree, breaks);
         return number;
