@@ -39,7 +39,9 @@ static jug_answer keep_sheet(void) { return jug_keep_sheet(&store, sheet, sheet_
 static jug_answer kept_sheet(void) { return jug_kept_sheet(&store, 9, states, sizeof states); }
 static jug_answer close_log(void) { return jug_close_log(TABLE, LOG, 2); }
 static jug_answer make_machine(void) { return made = jug_machine(TABLE, work, JUG_MACHINE_WORK, machine, sizeof machine); }
-static jug_answer machine_step(void) { return jug_machine_step(machine, made.count * made.value, made.value == 8 ? 1 : made.value == 20 ? 2 : 3, 0, 0, 0, 0); }
+static uint64_t props(void) { return made.value == 8 ? 1 : made.value == 20 ? 2 : 3; }
+static jug_answer machine_step(void) { return jug_machine_step(machine, made.count * made.value, props(), 0, 0, 0, 0); }
+static jug_answer machine_steps(void) { static const uint8_t events[64]; return jug_machine_steps(machine, made.count * made.value, props(), 0, events, sizeof events, text, sizeof text); }
 static jug_answer note(void) { return jug_note(&box, &day, 0, 0, 0, 0, 0); }
 static jug_answer note_missing(void) { return jug_note(&box, &day, 1, 20, 0, 0, 1); }
 static jug_answer day_sheet(void) { return jug_day_sheet(&day, text, sizeof text); }
@@ -58,7 +60,7 @@ static const struct {
 } calls[] = {
     {"nothing", nothing}, {"watch_log", watch_log}, {"open", open_}, {"look", look}, {"open, step", first}, {"step", step}, {"step, restart", restart},
     {"goes_on, keeps", goes_on}, {"goes_on, breaks", goes_wrong}, {"write_table", write_table}, {"setting", setting}, {"keep_sheet", keep_sheet}, {"kept_sheet", kept_sheet},
-    {"close_log", close_log}, {"machine", make_machine}, {"machine_step", machine_step}, {"note", note}, {"note, missing", note_missing}, {"day_sheet", day_sheet},
+    {"close_log", close_log}, {"machine", make_machine}, {"machine_step", machine_step}, {"machine_steps", machine_steps}, {"note", note}, {"note, missing", note_missing}, {"day_sheet", day_sheet},
     {"judge", judge}, {"judge, no event", judge_runs}, {"take", take}, {"end", end},
 };
 static size_t now;
