@@ -61,14 +61,38 @@ row table rule es n = record { table = table; rule = bytes rule; log = lines es;
 abbrev plant : List String → List String → List ℕ
 plant just rows = lines ("props=2" ∷ "states=3" ∷ "start=0000000000000001" ∷ []) ++ lines just ++ lines rows
 
+-- the lines of W's states: each may last, and goes on to the next
+abbrev round : List String
+round =
+    "label0=00" ∷ "next0=0000000000000003"
+    ∷ "label1=01" ∷ "next1=0000000000000006"
+    ∷ "label2=02" ∷ "next2=0000000000000005"
+    ∷ []
+
 abbrev W : List ℕ
-W = plant ("just=0" ∷ []) ("label0=00" ∷ "next0=0000000000000003" ∷ "label1=01" ∷ "next1=0000000000000006" ∷ "label2=02" ∷ "next2=0000000000000005" ∷ [])
+W = plant ("just=0" ∷ []) round
 
 abbrev fairW : List ℕ
-fairW = plant ("just=1" ∷ "j0=0000000000000005" ∷ []) ("label0=00" ∷ "next0=0000000000000003" ∷ "label1=01" ∷ "next1=0000000000000006" ∷ "label2=02" ∷ "next2=0000000000000005" ∷ [])
+fairW = plant ("just=1" ∷ "j0=0000000000000005" ∷ []) round
 
 abbrev deadW : List ℕ
 deadW = plant ("just=0" ∷ []) ("label0=00" ∷ "next0=0000000000000000" ∷ "label1=01" ∷ "next1=0000000000000000" ∷ "label2=02" ∷ "next2=0000000000000000" ∷ [])
+
+-- events: both signals are seen, with neither of them on, the first, the second or both; nothing is seen
+abbrev pub neither : String
+neither = "see=03 val=00 new=0"
+
+abbrev pub first : String
+first = "see=03 val=01 new=0"
+
+abbrev pub second : String
+second = "see=03 val=02 new=0"
+
+abbrev pub two : String
+two = "see=03 val=03 new=0"
+
+abbrev pub unseen : String
+unseen = "see=00 val=00 new=0"
 
 -- M1 to M10, and the four lines of the program's example
 abbrev pub rows : List Row
@@ -76,17 +100,17 @@ rows =
     row W "1" [] (verdict 1 1)
     ∷ row W "G(p0->Fp1)" [] (verdict 0 1)
     ∷ row fairW "G(p0->Fp1)" [] (verdict 1 1)
-    ∷ row W "Fp1" ("see=03 val=00 new=0" ∷ "see=03 val=01 new=0" ∷ "see=03 val=02 new=0" ∷ []) (verdict 1 1)
-    ∷ row W "G!p1" ("see=03 val=00 new=0" ∷ "see=03 val=01 new=0" ∷ "see=03 val=02 new=0" ∷ []) (verdict 2 1)
+    ∷ row W "Fp1" (neither ∷ first ∷ second ∷ []) (verdict 1 1)
+    ∷ row W "G!p1" (neither ∷ first ∷ second ∷ []) (verdict 2 1)
     ∷ row W "p0R!p1" [] (verdict 1 1)
-    ∷ row W "Xp0" ("see=03 val=00 new=0" ∷ "see=03 val=00 new=0" ∷ []) (verdict 2 1)
-    ∷ row W "Fp1" ("see=03 val=00 new=0" ∷ "see=03 val=03 new=0" ∷ []) (verdict 3 0)
-    ∷ row W "Fp1" ("see=03 val=00 new=0" ∷ "see=03 val=03 new=0" ∷ "see=03 val=00 new=1" ∷ []) (verdict 3 0)
+    ∷ row W "Xp0" (neither ∷ neither ∷ []) (verdict 2 1)
+    ∷ row W "Fp1" (neither ∷ two ∷ []) (verdict 3 0)
+    ∷ row W "Fp1" (neither ∷ two ∷ "see=03 val=00 new=1" ∷ []) (verdict 3 0)
     ∷ row deadW "1" [] (verdict 3 0)
     ∷ row W "Fp0" [] (verdict 0 1)
-    ∷ row W "Fp0" ("see=03 val=00 new=0" ∷ []) (verdict 0 1)
-    ∷ row W "Fp0" ("see=03 val=00 new=0" ∷ "see=00 val=00 new=0" ∷ []) (verdict 0 2)
-    ∷ row W "Fp0" ("see=03 val=00 new=0" ∷ "see=00 val=00 new=0" ∷ "see=02 val=02 new=0" ∷ []) (verdict 1 1)
+    ∷ row W "Fp0" (neither ∷ []) (verdict 0 1)
+    ∷ row W "Fp0" (neither ∷ unseen ∷ []) (verdict 0 2)
+    ∷ row W "Fp0" (neither ∷ unseen ∷ "see=02 val=02 new=0" ∷ []) (verdict 1 1)
     ∷ []
 
 -- ---- the claim

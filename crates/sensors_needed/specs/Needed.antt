@@ -50,7 +50,8 @@ use Rattle.log.specs.Legal.{legalOf}
 use Rattle.log.specs.Lead.{leading}
 use Rattle.log.specs.Read as log-read
 use Rattle.event_numbers.specs.Numbers.{inTurn, eventOutcome}
-use Rattle.marked.specs.Marked.{bytes, lines, Row}
+use Rattle.marked.specs.Marked.{bytes, lines, Row, neither, unseen}
+use Rattle.marked.specs.Marked as saw
 use Rattle.promises.specs.ThreeTexts.{shownFor, Said, saidBy, modelShown, texts-shown}
 
 -- ---- texts
@@ -97,29 +98,29 @@ pair name a b = record { unlike = name; first = a; second = b }
 abbrev pub pairs : List Pair
 pairs =
     pair "values"
-    (row W "Fp1" ("see=03 val=00 new=0" ∷ "see=03 val=01 new=0" ∷ "see=03 val=02 new=0" ∷ []) (verdict 1 1))
-    (row W "Fp1" ("see=03 val=00 new=0" ∷ "see=03 val=00 new=0" ∷ "see=03 val=00 new=0" ∷ []) (verdict 0 1))
+    (row W "Fp1" (neither ∷ saw.first ∷ saw.second ∷ []) (verdict 1 1))
+    (row W "Fp1" (neither ∷ neither ∷ neither ∷ []) (verdict 0 1))
     ∷ pair "sight"
-    (row W "Fp1" ("see=03 val=00 new=0" ∷ "see=03 val=01 new=0" ∷ "see=03 val=02 new=0" ∷ []) (verdict 1 1))
-    (row W "Fp1" ("see=03 val=00 new=0" ∷ "see=00 val=00 new=0" ∷ "see=00 val=00 new=0" ∷ []) (verdict 0 3))
+    (row W "Fp1" (neither ∷ saw.first ∷ saw.second ∷ []) (verdict 1 1))
+    (row W "Fp1" (neither ∷ unseen ∷ unseen ∷ []) (verdict 0 3))
     ∷ pair "restarts"
-    (row W "!p0" ("see=03 val=00 new=0" ∷ "see=03 val=01 new=0" ∷ []) (verdict 1 1))
-    (row W "!p0" ("see=03 val=00 new=0" ∷ "see=03 val=01 new=1" ∷ []) (verdict 2 1))
+    (row W "!p0" (neither ∷ saw.first ∷ []) (verdict 1 1))
+    (row W "!p0" (neither ∷ "see=03 val=01 new=1" ∷ []) (verdict 2 1))
     ∷ pair "numbers"
     (row W "Xp0" ("num=00000000 see=03 val=00 new=0" ∷ "num=00000001 see=03 val=01 new=0" ∷ []) (verdict 1 1))
     (row W "Xp0" ("num=00000000 see=03 val=00 new=0" ∷ "num=00000002 see=03 val=01 new=0" ∷ []) (verdict 0 1))
     ∷ pair "fairness sets"
-    (row fairW "G(p0->Fp1)" ("see=03 val=00 new=0" ∷ []) (verdict 1 1))
-    (row easyW "G(p0->Fp1)" ("see=03 val=00 new=0" ∷ []) (verdict 0 1))
+    (row fairW "G(p0->Fp1)" (neither ∷ []) (verdict 1 1))
+    (row easyW "G(p0->Fp1)" (neither ∷ []) (verdict 0 1))
     ∷ pair "labels"
-    (row W "!p0" ("see=00 val=00 new=0" ∷ []) (verdict 1 1))
-    (row otherW "!p0" ("see=00 val=00 new=0" ∷ []) (verdict 2 1))
+    (row W "!p0" (unseen ∷ []) (verdict 1 1))
+    (row otherW "!p0" (unseen ∷ []) (verdict 2 1))
     ∷ pair "starting set"
-    (row W "!p0" ("see=00 val=00 new=0" ∷ []) (verdict 1 1))
-    (row openW "!p0" ("see=00 val=00 new=0" ∷ []) (verdict 0 2))
+    (row W "!p0" (unseen ∷ []) (verdict 1 1))
+    (row openW "!p0" (unseen ∷ []) (verdict 0 2))
     ∷ pair "next sets"
-    (row fewW "Xp0" ("see=00 val=00 new=0" ∷ []) (verdict 1 1))
-    (row W "Xp0" ("see=00 val=00 new=0" ∷ []) (verdict 0 1))
+    (row fewW "Xp0" (unseen ∷ []) (verdict 1 1))
+    (row W "Xp0" (unseen ∷ []) (verdict 0 1))
     ∷ []
 
 -- ---- the claim
