@@ -8,7 +8,7 @@ use radio::Radio;
 use sides::Monitor;
 ghost use mathlib.Core.Path.{_≡_};
 ghost use Prim.Native.Nat.{_+_, _<_};
-ghost use Rattle.radio_words.specs.Words.{byteIn, partIn, formIn, standingIn, radioIn, canStand, packedAt, formCode, standingCode, standingPlace, radioWord, changedWord, withRadio};
+ghost use Rattle.radio_words.specs.Words.{byteIn, partIn, formIn, standingIn, radioIn, canStand, packedAt, formCode, standingCode, standingPlace, radioWord, radioWords, splicedWord, withRadio};
 
 // A byte of the part. The words are lent: handed over by value they would be copied for each byte.
 fn byte_in(words: &[u64; 384], at: usize) -> u8
@@ -159,27 +159,39 @@ fn radio_word(radio: Radio, at: usize) -> u64
     standing_place(standing)
 }
 
+// All ten.
+fn words_of(radio: Radio) -> [u64; 10]
+    ensures { λ r. ⌜ r ≡ radioWords radio ⌝ }
+{
+    let mut words = [0u64; 10];
+    for at in 0..10 {
+        words[at] = radio_word(radio, at);
+    }
+    words
+}
+
 // A word of a box with another radio.
-fn changed_word(words: [u64; 384], radio: Radio, at: usize) -> u64
+fn changed_word<'a>(words: &'a [u64; 384], ten: &'a [u64; 10], at: usize) -> u64
     requires { ⌜ at < 384 ⌝ }
-    ensures { λ r. ⌜ r ≡ changedWord words radio at ⌝ }
+    ensures { λ r. ⌜ r ≡ splicedWord (now (words .entry)) (now (ten .entry)) at ⌝ }
 {
     if at < 363 {
         return words[at];
     }
     if at < 373 {
-        return radio_word(radio, at - 363);
+        return ten[at - 363];
     }
     words[at]
 }
 
-// The same box with another radio; its monitor is not among these words.
+// The same box with another radio; its monitor is not among these words. The ten are made once, and both are lent: handed over by value they would be copied 384 times.
 pub fn with_radio(words: [u64; 384], radio: Radio) -> [u64; 384]
     ensures { λ r. ⌜ r ≡ withRadio words radio ⌝ }
 {
+    let ten = words_of(radio);
     let mut changed = [0u64; 384];
     for at in 0..384 {
-        changed[at] = changed_word(words, radio, at);
+        changed[at] = changed_word(&words, &ten, at);
     }
     changed
 }
