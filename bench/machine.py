@@ -39,6 +39,10 @@ CASES = {
     'ring': (ring(), 'p0'),
 }
 LOOKED_UP = ('W', 'turbine', 'ahead')
+# How many turns are few and how many are more: for a machine, for events by a call each, for steps, for many events in a call. A count needs few turns, and is the
+# same each time; a time needs so many that what the processor does beside it is little.
+TURNS = {'count': ((1, 3), (100000, 300000), (100, 600), (102400, 307200)),
+         'time': ((2, 22), (1000000, 11000000), (100, 2100), (1024000, 11264000))}[HOW]
 
 
 def folder(name):
@@ -76,16 +80,16 @@ def run(name, mode, turns):
     return used_by(words, name)
 
 
-def each(name, modes, few, more, idle=()):
+def each(name, modes, turns, idle=()):
     """What one turn beyond the first few takes in each mode, without what it takes in the idle one. All modes must say the same."""
-    took, heard, told = {}, {}, ''
-    for turns in (few, more):
-        for _ in range(ROUNDS):
-            for mode in modes + idle:
-                spent, said, beside = run(name, mode, turns)
-                took[mode, turns] = min(spent, took.get((mode, turns), spent))
+    (few, more), took, heard, told = turns, {}, {}, ''
+    for _ in range(ROUNDS):
+        for mode in modes + idle:
+            for many in turns:
+                spent, said, beside = run(name, mode, many)
+                took[mode, many] = min(spent, took.get((mode, many), spent))
                 told = told or beside.decode()
-                if mode in modes and heard.setdefault(turns, said) != said:
+                if mode in modes and heard.setdefault(many, said) != said:
                     sys.exit('bench: on %s %s says something else' % (name, mode))
     one = {mode: (took[mode, more] - took[mode, few]) / (more - few) for mode in modes + idle}
     return {mode: one[mode] - sum(one[other] for other in idle) for mode in modes}, heard[more].decode(), told
@@ -120,20 +124,20 @@ def main():
     print('a machine, in %s' % UNIT)
     print('%-10s %8s %6s %10s %10s %14s' % ('case', 'states', 'rows', 'make', 'twin', 'make to twin'))
     for name in CASES:
-        took, said, told = each(name, ('make', 'twin'), 1, 3)
+        took, said, told = each(name, ('make', 'twin'), TURNS[0])
         states = re.search(r'states=(\d+)', told).group(1)
         print('%-10s %8s %6s %10.2f %10.2f %14.2f' % (name, states, said.split()[0], took['make'] / MANY, took['twin'] / MANY, took['make'] / took['twin']), flush=True)
     print('\nan event, in %s' % ('ns' if HOW == 'time' else 'instructions'))
     print('%-10s %8s %8s %8s %8s %10s %13s %16s %13s' % ('case', 'look', 'bare', 'checked', 'inside', 'step', 'look to bare', 'look to checked', 'step to look'))
     for name in LOOKED_UP:
-        took = each(name, ('look', 'bare', 'checked', 'inside'), 100000, 300000, ('none',))[0]
-        step = each(name, ('step', 'look'), 100, 600, ('none',))[0]['step']
+        took = each(name, ('look', 'bare', 'checked', 'inside'), TURNS[1], ('none',))[0]
+        step = each(name, ('step', 'look'), TURNS[2], ('none',))[0]['step']
         print('%-10s %8.1f %8.1f %8.1f %8.1f %10.1f %13.2f %16.2f %13.0f' % (
             name, took['look'], took['bare'], took['checked'], took['inside'], step, took['look'] / took['bare'], took['look'] / took['checked'], step / took['look']), flush=True)
     print('\nmany events in a call, an event in %s' % ('ns' if HOW == 'time' else 'instructions'))
     print('%-10s %8s %8s %8s %14s %17s' % ('case', 'steps', 'through', 'over', 'steps to over', 'steps to through'))
     for name in LOOKED_UP:
-        took = each(name, ('steps', 'through', 'over'), 102400, 307200, ('shown',))[0]
+        took = each(name, ('steps', 'through', 'over'), TURNS[3], ('shown',))[0]
         print('%-10s %8.1f %8.1f %8.1f %14.2f %17.2f' % (
             name, took['steps'], took['through'], took['over'], took['steps'] / took['over'], took['steps'] / took['through']), flush=True)
     natively()
