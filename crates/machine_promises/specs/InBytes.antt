@@ -53,7 +53,7 @@ module _ {c : ℕ} {m : Machine} {bytes : List ℕ} (in-bytes : Bytes c m bytes)
       sym (ap (λ (p : ℕ). getD bytes p 0) (sym place) ∙ byte-of r (suc (suc k)) l (omega arith) ∙ mod-eq-of-lt {n = m .next r k} {m = 256} (omega (arith, proper .inside r k l h)))
 
   -- and a row of the machine is held
-  row-held : m .rows ≤ 256 → (r : ℕ) → r < m .rows → holdsRow (length bytes) (c + 2) r ≡ true
+  pub row-held : m .rows ≤ 256 → (r : ℕ) → r < m .rows → holdsRow (length bytes) (c + 2) r ≡ true
   unfolding holdsRow
   row-held few r l =
       let whole : length bytes % (c + 2) ≡ 0 = ap (λ (k : ℕ). k % (c + 2)) (in-bytes .long ∙ sym (add-zero (m .rows * (c + 2)))) ∙ mul-add-mod-self-right (m .rows) (c + 2) 0 ∙ mod-eq-of-lt {n = 0} {m = c + 2} (omega arith) in

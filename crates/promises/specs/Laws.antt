@@ -1,23 +1,29 @@
--- What users of monitors ask: equivalent rules show the same lamp, `left` does not depend on the rule, and the negated rule has the two sets
--- exchanged.
-use Prim.Native.Nat.{ℕ}
-use mathlib.Core.Path.{_≡_, sym, ap₂, _∙_}
+-- What users of monitors ask: equivalent rules show the same lamp, `left` does not depend on the rule, the negated rule has the two sets exchanged, and an
+-- event of which nothing was seen decides nothing.
+use Prim.Native.Nat.{ℕ, _<_}
+use mathlib.Core.Path.{_≡_, sym, ap, ap₂, subst, _∙_}
 use mathlib.Core.Logic.{_↔_, Iff·trans, Iff·symm}
-use mathlib.Core.Bool.{Bool, true, false, not}
-use mathlib.Core.List.{List}
+use mathlib.Core.Bool.{Bool, true, false, not, false≢true}
+use mathlib.Core.List.{List, [], _∷_, _++_, foldl-append}
+use native.Mathlib.Omega.{arith}
+use native.Mathlib.Decide.{decLt}
+use lib.ListN.{length, length-append, List·getD-append}
+use lib.Seq.{getD-append-seam}
 use Rattle.meaning.specs.Says.{Kept}
 use Rattle.meaning.specs.Formula.{Formula, neg, Word, Holds, temporal, parts}
-use Rattle.meaning.specs.Run.{Plant, Run, Lasso, labelsAlong}
-use Rattle.meaning.specs.Event.{Event, History, since, now}
+use Rattle.meaning.specs.Run.{Plant, Run, Lasso, stateAt, labelOf, labelsAlong}
+use Rattle.meaning.specs.Event.{Seen, Agrees, nothing, seenAt, AgreesWith, Event, History, none, more, grow, since, now}
 use Rattle.meaning.specs.Pair.{PairAt}
 use Rattle.meaning.specs.Verdict.{At, Possible, verdictOf}
 use Rattle.meaning.specs.Limits.{AcceptedTable, Small}
 use Rattle.words.specs.Truth.{says-same, kept-iff}
+use Rattle.words.specs.Laws.{bit-zero}
 use Rattle.pairs.specs.Sets.{inside, emptyOf, occursIn}
 use Rattle.theory.specs.Verdict.{judged}
 use Rattle.model.specs.Monitor.{side, verdict, left}
 use Rattle.model.specs.Log.{watched, log-means, log-sets, log-left}
 use Rattle.model.specs.Shown.{occupied-says, occurs-says}
+use Rattle.event_numbers.specs.Numbers.{unseen}
 
 -- two rules say the same of every word
 abbrev pub Equivalent : Formula → Formula → Type 0
@@ -73,3 +79,44 @@ pub sets-exchanged : (T : Plant) (A : AcceptedTable T) (f : Formula) → Small f
     → inside (side (watched T (neg f) es) b) s v ≡ inside (side (watched T f es) (not b)) s v
 sets-exchanged T A f small small' es b s v =
     says-same (Iff·trans (log-sets T (neg f) A small' es b s v) (neg-at T f (since es) b s v)) (log-sets T f A small es (not b) s v)
+
+-- ---- an event of which nothing was seen
+
+-- it agrees with every label
+nothing-agrees : (l : ℕ) → Agrees nothing l
+nothing-agrees l p seen = absurd (false≢true (sym (bit-zero p) ∙ seen))
+
+-- so a run agrees with one more of them exactly if it agrees with those before
+unseen-agrees : (T : Plant) (L : Lasso) (es : List Seen) → AgreesWith T L (es ++ nothing ∷ []) ↔ AgreesWith T L es
+unseen-agrees T L es = (
+  λ all i l. subst (λ (e : Seen). Agrees e (labelOf T (stateAt L i))) (List·getD-append es (nothing ∷ []) nothing i l) (all i (omega (arith, length-append es (nothing ∷ [])))),
+  λ all i l. elim (decLt i (length es)) [
+    | yes low ↦ subst (λ (e : Seen). Agrees e (labelOf T (stateAt L i))) (sym (List·getD-append es (nothing ∷ []) nothing i low)) (all i low)
+    | no d ↦ subst (λ (e : Seen). Agrees e (labelOf T (stateAt L i))) (sym (last i l d)) (nothing-agrees (labelOf T (stateAt L i)))
+  ],
+)
+  where
+    last : (i : ℕ) → i < length (es ++ nothing ∷ []) → (i < length es → ⊥) → seenAt (es ++ nothing ∷ []) i ≡ nothing
+    last i l d = ap (seenAt (es ++ nothing ∷ [])) (omega (arith, length-append es (nothing ∷ []))) ∙ getD-append-seam es nothing [] nothing
+
+unseen-possible : (T : Plant) (f : Formula) (h : History) (b : Bool) → Possible T f (more h nothing) b ↔ Possible T f h b
+unseen-possible T f h b = (
+  λ (L, c). (L, record { run = c .run; agrees = unseen-agrees T L (h .events) .0 (c .agrees); judged = c .judged }),
+  λ (L, c). (L, record { run = c .run; agrees = unseen-agrees T L (h .events) .1 (c .agrees); judged = c .judged }),
+)
+
+-- what a log tells with it behind
+unseen-told : (es : List Event) → since (es ++ unseen ∷ []) ≡ more (since es) nothing
+unfolding since grow
+unseen-told es = foldl-append grow none es (unseen ∷ [])
+
+-- AN EVENT OF WHICH NOTHING WAS SEEN DECIDES NOTHING: the verdict behind it is the one before it
+pub unseen-stays : (T : Plant) (A : AcceptedTable T) (f : Formula) → Small f → (es : List Event) → verdict (watched T f (es ++ unseen ∷ [])) ≡ verdict (watched T f es)
+unfolding verdict
+unseen-stays T A f small es = ap₂ verdictOf (occupied true) (occupied false)
+  where
+    occupied : (b : Bool) → not (emptyOf (side (watched T f (es ++ unseen ∷ [])) b)) ≡ not (emptyOf (side (watched T f es) b))
+    occupied b = says-same
+        (Iff·trans (occupied-says T f A small (watched T f (es ++ unseen ∷ [])) (since (es ++ unseen ∷ [])) (log-means T f A small (es ++ unseen ∷ [])) b)
+        (subst (λ (h : History). Possible T f h b ↔ Possible T f (since es) b) (sym (unseen-told es)) (unseen-possible T f (since es) b)))
+        (occupied-says T f A small (watched T f es) (since es) (log-means T f A small es) b)
