@@ -6,7 +6,7 @@ use mathlib.Core.Logic.{Iff·rfl, Iff·trans}
 use mathlib.Core.Bool.{Bool, true, false}
 use native.Mathlib.Omega.{arith}
 use Rattle.meaning.specs.Says.{Says}
-use Rattle.meaning.specs.Formula.{Formula, next, Holds}
+use Rattle.meaning.specs.Formula.{Formula, Holds}
 use Rattle.words.specs.Truth.{says-not, says-and, says-or, says-implies, says-true, says-false}
 use Rattle.syntax.specs.declared.Op.{Op}
 use Rattle.syntax.specs.Grammar.{Level, Side, Atom, is-false, is-true, is-prop, Unary, is-not, is-next, is-finally, is-globally, Binary, is-implies, is-or, is-and, is-until, is-release}

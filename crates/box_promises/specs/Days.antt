@@ -34,9 +34,9 @@ use Rattle.day_sheet.specs.declared.Noted.{Noted}
 use Rattle.day_sheet.specs.Afresh.{Numbered, numberedBy, verdictIn}
 use Rattle.day_sheet.specs.Calls.{Day, opensOf, noteStep, sheetAfter, isFull, refusedWith, noteBy, overfullBy, notedOf}
 use Rattle.day_sheet.specs.Promises.{linesAfter, begun, notedThrough, acceptedOnes, always-afresh}
-use Rattle.day_words.specs.Words.{lineIn, linesIn, sheetIn, withSheet}
+use Rattle.day_words.specs.Words.{lineIn, linesIn, sheetIn}
 use Rattle.day_words.specs.Promises.{stored-back}
-use Rattle.box_calls.specs.Calls.{heldOf, boxOpened, steppedIn, boxBy, boxAfter}
+use Rattle.box_calls.specs.Calls.{heldOf, boxOpened, steppedIn, boxBy}
 use Rattle.box_day.specs.Day.{notedIn, boxNoted, dayNoted}
 use Rattle.box_promises.specs.Promises.{step-held, opened-begun, opened-right}
 

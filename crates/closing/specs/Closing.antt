@@ -1,4 +1,4 @@
--- WHAT A DAY ENDS WITH: the texts are opened, the log is checked, and then the public step is taken line after line. Behind the last event the edition decides.
+-- WHAT A DAY ENDS WITH: the log is followed to its end. Behind the last event the edition decides.
 use Prim.Native.Nat.{ℕ}
 use mathlib.Core.Bool.{cond}
 use mathlib.Core.List.{List}
@@ -6,22 +6,17 @@ use lib.Dec.{eqb}
 use Rattle.answers.specs.declared.Kind.the-variants.{ClosingEdition}
 use Rattle.answers.specs.declared.Verdict.{Verdict}
 use Rattle.answers.specs.declared.Verdict.the-variants as Verdicts
-use Rattle.answers.specs.declared.Refusal.{Refusal}
-use Rattle.answers.specs.declared.Outcome.{Outcome}
-use Rattle.answers.specs.declared.Outcome.the-variants as Outcomes
 use Rattle.answers.specs.Paper.{refusedAt}
-use Rattle.answers.specs.Chain.{andThen}
 use Rattle.text.specs.Number.{widthOf}
-use Rattle.text.specs.Lines.{lineStart}
 use Rattle.syntax.specs.declared.Rule.{Rule}
 use Rattle.log.specs.declared.Event.{Event}
-use Rattle.log.specs.Read.{bytesIn, logRead, eventAt, wholeLines}
+use Rattle.log.specs.Read.{eventAt, wholeLines}
 use Rattle.sides.specs.declared.Monitor.{Monitor}
 use Rattle.sides.specs.Held.{modelOf, lampIn}
-use Rattle.course.specs.declared.Went.{Went}
-use Rattle.opened.specs.declared.Opened.{Opened}
-use Rattle.opened.specs.Opened.{openedOf}
-use Rattle.controller.specs.Whole.{courseFrom}
+use Rattle.controller.specs.declared.LogAnswer.{LogAnswer}
+use Rattle.controller.specs.declared.LogAnswer.the-variants as Logs
+use Rattle.controller.specs.declared.LogEnd.{LogEnd}
+use Rattle.controller.specs.Whole.{endOf}
 use Rattle.closing.specs.declared.ClosingVerdict.{ClosingVerdict}
 use Rattle.closing.specs.declared.ClosingVerdict.the-variants.{Inconclusive, True, False, OutOfModel, PresumablyTrue, PresumablyFalse}
 use Rattle.closing.specs.declared.Closed.{Closed}
@@ -67,29 +62,18 @@ closedBy edition v presumed = cond (eqb edition 1) (At (ofVerdict v)) (cond (eqb
 unfoldable pub closedAt : Rule → (ℕ → Event) → ℕ → Monitor → ℕ → Closed
 closedAt rule event n last edition = closedBy edition (lampIn (modelOf last) .verdict) (presumedOf rule event n)
 
--- an event is refused behind so many, and its line is at `offset`
-abbrev pub stoppedAt : Refusal → ℕ → ℕ → Closed
-stoppedAt r done offset = Stopped (record { refusal = refusedAt (r .kind) offset; event = done })
+-- unless the log was refused, or one of its events
+abbrev pub unlessStopped : LogAnswer → Closed → Closed
+unlessStopped (Logs.Watched n) c = c
+unlessStopped (Logs.Stopped s) c = Stopped s
+unlessStopped (Logs.Refused r) c = Refused r
 
--- how the course of a log ended
-abbrev pub closedWent : Outcome → Went → ℕ → Closed → Closed
-closedWent Outcomes.Accepted w bytes end = end
-closedWent (Outcomes.Refused r) w bytes end = stoppedAt r (w .done) (lineStart bytes (w .done))
-
-abbrev pub closedFollowed : Opened → List ℕ → ℕ → Closed
-closedFollowed o log edition =
-    let width = widthOf (o .table .plant .props) in
-    let went = courseFrom o log .went in
-    closedWent (went .outcome) went (bytesIn width log) (closedAt (o .rule) (eventAt width log) (wholeLines width log) (went .monitor) edition)
-
--- behind the checks
-abbrev pub closedIn : Outcome → Opened → List ℕ → ℕ → Closed
-closedIn Outcomes.Accepted o log edition = closedFollowed o log edition
-closedIn (Outcomes.Refused r) o log edition = Refused r
-
-abbrev pub closedFrom : Opened → List ℕ → ℕ → Closed
-closedFrom o log edition = closedIn (andThen (o .outcome) (logRead (widthOf (o .table .plant .props)) log .outcome)) o log edition
+-- where a log ends
+abbrev pub closedEnd : LogEnd → List ℕ → ℕ → Closed
+closedEnd e log edition =
+    let width = widthOf (e .table .plant .props) in
+    unlessStopped (e .answer) (closedAt (e .rule) (eventAt width log) (wholeLines width log) (e .last) edition)
 
 -- the texts of a table, a rule and a log, and an edition
 unfoldable pub closedOf : List ℕ → List ℕ → List ℕ → ℕ → Closed
-closedOf table rule log edition = closedFrom (openedOf table rule) log edition
+closedOf table rule log edition = closedEnd (endOf table rule log) log edition

@@ -1,26 +1,20 @@
 // A day's end: the last verdict of a whole log, and by edition 2, where that is inconclusive, what finite-trace logic presumes of the rule.
 use advance::lamp;
 use answers::Kind;
-use answers::Outcome;
 use answers::Refusal;
 use answers::Verdict;
+use controller::LogAnswer;
 use controller::Stop;
+use controller::to_end;
 use last_stretch::look_back;
-use opened::Opened;
-use opened::open_texts;
-use pairs::Pairs;
-use plant::Plant;
 use plant::Table;
 use sides::Monitor;
 use syntax::Rule;
 ghost use mathlib.Core.Path.{_≡_};
 ghost use Prim.Native.Nat.{_≤_};
-ghost use Rattle.answers.specs.declared.Outcome.the-variants.{Accepted};
 ghost use Rattle.text.specs.Number.{widthOf};
-ghost use Rattle.log.specs.Read.{logRead, eventAt, wholeLines};
-ghost use Rattle.opened.specs.Lent.{Lent};
-ghost use Rattle.opened.specs.Fits.{Fits};
-ghost use Rattle.closing.specs.Closing.{closingNumber, ofVerdict, presumedOf, secondOf, stoppedAt, closedAt, closedIn, closedOf};
+ghost use Rattle.log.specs.Read.{eventAt, wholeLines};
+ghost use Rattle.closing.specs.Closing.{closingNumber, ofVerdict, presumedOf, secondOf, closedAt, closedOf};
 
 // What a day ends with: one of the four verdicts, or what is presumed where it is inconclusive.
 pub enum ClosingVerdict {
@@ -76,79 +70,15 @@ pub enum Closed {
 pub fn close_log(table: &[u8], rule: &[u8], log: &[u8], edition: u64) -> Closed
     ensures { λ r. ⌜ r ≡ closedOf (now (table .entry)) (now (rule .entry)) (now (log .entry)) edition ⌝ }
 {
-    let opened = open_texts(table, rule);
-    let outcome = opened.outcome;
-    match outcome {
-        Outcome::Refused(refusal) => Closed::Refused(refusal),
-        Outcome::Accepted => with_opened(opened, log, edition),
-    }
-}
-
-// The form of the log, behind a table and a rule that were accepted.
-fn with_opened(opened: Opened, log: &[u8], edition: u64) -> Closed
-    requires { ⌜ Lent (opened .table) × Fits opened ⌝ }
-    ensures { λ r. ⌜ r ≡ closedIn (logRead (widthOf (opened .table .plant .props)) (now (log .entry)) .outcome) opened (now (log .entry)) edition ⌝ }
-{
-    let table = opened.table;
+    let end = to_end(table, rule, log);
+    let answer = end.answer;
+    let table: Table = end.table;
     let plant = table.plant;
-    let read = log::read_log(log, plant.props);
-    let outcome = read.outcome;
-    match outcome {
-        Outcome::Refused(refusal) => Closed::Refused(refusal),
-        Outcome::Accepted => follow_log(opened, log, edition),
+    match answer {
+        LogAnswer::Refused(refusal) => Closed::Refused(refusal),
+        LogAnswer::Stopped(stop) => Closed::Stopped(stop),
+        LogAnswer::Watched(_) => at_end(end.rule, log, plant.props, end.last, edition),
     }
-}
-
-// Forward over the log's lines. Nothing is kept of an event but the monitor behind it.
-fn follow_log(opened: Opened, log: &[u8], edition: u64) -> Closed
-    requires { ⌜ Lent (opened .table) × Fits opened ⌝ }
-    ensures { λ r. ⌜ r ≡ closedIn Accepted opened (now (log .entry)) edition ⌝ }
-{
-    let table: Table = opened.table;
-    let plant: Plant = table.plant;
-    let just = plant.just;
-    let states = plant.states;
-    let fair = table.fair;
-    let label = table.label;
-    let next = table.next;
-    let rule: Rule = opened.rule;
-    let live: Pairs = opened.live;
-    let monitor: Monitor = opened.monitor;
-    let mut verdicts = [0u8; 0];
-    let mut lefts = [0u8; 0];
-    let mut numbers = [0u64; 0];
-    let went = course::follow(
-        plant,
-        &fair[..just],
-        &label[..states],
-        &next[..states],
-        rule,
-        live,
-        monitor,
-        log,
-        &mut verdicts,
-        &mut lefts,
-        &mut numbers,
-    );
-    let outcome = went.outcome;
-    let done = went.done;
-    let last = went.monitor;
-    let offset = done * log::line_bytes(log, plant.props);
-    match outcome {
-        Outcome::Refused(refusal) => stopped(refusal, done, offset),
-        Outcome::Accepted => at_end(rule, log, plant.props, last, edition),
-    }
-}
-
-// An event is refused behind so many, and its line is at `offset`.
-fn stopped(refusal: Refusal, done: usize, offset: usize) -> Closed
-    ensures { λ r. ⌜ r ≡ stoppedAt refusal done offset ⌝ }
-{
-    let kind = refusal.kind;
-    Closed::Stopped(Stop {
-        refusal: Refusal::at(kind, offset),
-        event: done,
-    })
 }
 
 // Behind the last event: the edition decides what is asked.

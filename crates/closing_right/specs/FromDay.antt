@@ -3,13 +3,12 @@
 use Prim.Native.Nat.{ℕ, _≤_, _<_}
 use native.Mathlib.Omega.{arith}
 use native.Mathlib.Nat.{div-le-self}
-use mathlib.Core.Path.{_≡_, refl, sym, ap, ap₂, subst, _∙_}
+use mathlib.Core.Path.{_≡_, refl, sym, ap, ap₂, subst}
 use mathlib.Core.Logic.{_⊎_, inl, inr}
 use mathlib.Core.Bool.{Bool, true, false, cond}
 use mathlib.Core.List.{List}
 use lib.Dec.{eqb, leb}
-use lib.ListN.{length, getD, take}
-use lib.Seq.{take-length}
+use lib.ListN.{length, getD}
 use borrow.Author.Tests.{eqb-true, eqb-false, le-leb}
 use Rattle.meaning.specs.Formula.{Formula}
 use Rattle.meaning.specs.Run as run
@@ -18,7 +17,6 @@ use Rattle.meaning.specs.Limits.{AcceptedTable}
 use Rattle.text.specs.Number.{widthOf, width-between}
 use Rattle.answers.specs.declared.Verdict.{Verdict}
 use Rattle.answers.specs.declared.Verdict.the-variants as Verdicts
-use Rattle.answers.specs.declared.Lamp.{Lamp}
 use Rattle.answers.specs.declared.Kind.the-variants.{ClosingEdition, Room}
 use Rattle.answers.specs.declared.Refusal.{Refusal}
 use Rattle.answers.specs.declared.Outcome.{Outcome}
@@ -34,28 +32,24 @@ use Rattle.log.specs.Log.{nothing}
 use Rattle.log.specs.Read.{bytesIn, logRead, eventAt, wholeLines}
 use Rattle.log.specs.Promises.{accepted-text}
 use Rattle.log.specs.Forms.{lines-many}
-use Rattle.checks.specs.Input.{formula-is}
 use Rattle.sides.specs.declared.Monitor.{Monitor}
 use Rattle.sides.specs.Held.{modelOf, lampIn}
-use Rattle.monitor.specs.declared.Watched.{Watched}
 use Rattle.watching.specs.Filled.{filled}
-use Rattle.watching.specs.Watching as watching
-use Rattle.watching.specs.Watching.{after-model}
 use Rattle.course.specs.Course.{Course}
 use Rattle.opened.specs.declared.Opened.{Opened}
 use Rattle.opened.specs.Opened.{openedOf}
-use Rattle.controller.specs.Whole.{logChecked, courseFrom, heardIn, heardOf}
+use Rattle.controller.specs.declared.LogEnd.{LogEnd}
+use Rattle.controller.specs.Whole.{logChecked, courseFrom, heardBy, heardIn, heardOf, endIn, endOf}
 use Rattle.transcript.specs.Said.{bytes}
-use Rattle.front_door.specs.FrontDoor.{SaysTable, SaysLog, TakenAt, RightAfter, lineOf}
+use Rattle.front_door.specs.FrontDoor.{SaysTable, SaysLog, TakenAt, lineOf}
 use Rattle.front_door.specs.WholeLog.{VerdictAfter, SaysBare}
-use Rattle.front_door.specs.FromTexts.{value}
-use Rattle.front_door.specs.FromLog.{input, start, behind-rule, course, course-is, log-read, taken, all-gone}
-use Rattle.front_door.specs.Lamps.{Gone, all-taken, stopped, Stop, illegal, stray, all-taken-to, behind-taken, watched}
-use Rattle.front_door.specs.OneOutput.{lit-right}
+use Rattle.front_door.specs.FromLog.{input, start, course, taken, all-gone}
+use Rattle.front_door.specs.AtEnd.{end-is, last, verdict-right}
+use Rattle.front_door.specs.Lamps.{Gone, all-taken, stopped, Stop, illegal, stray}
 use Rattle.closing.specs.declared.ClosingVerdict.{ClosingVerdict}
 use Rattle.closing.specs.declared.Closed.{Closed}
-use Rattle.closing.specs.declared.Closed.the-variants.{At, Refused}
-use Rattle.closing.specs.Closing.{ofVerdict, presumedOf, secondOf, closedAt, stoppedAt, closedWent, closedIn, closedFrom, closedOf}
+use Rattle.closing.specs.declared.Closed.the-variants.{At, Stopped, Refused}
+use Rattle.closing.specs.Closing.{ofVerdict, presumedOf, secondOf, closedAt, unlessStopped, closedEnd, closedOf}
 use Rattle.closing_right.specs.DayEnd.{stretch, Presumed, Closes, first, decided, presumed, no-edition, Day, at-end, at-event, at-number, DayEnd, Likewise, AsWatched}
 use Rattle.closing_right.specs.Plain.{uses-some}
 use Rattle.closing_right.specs.Presumes.{presumes}
@@ -97,14 +91,11 @@ module _ (t : run.Plant) (table : AcceptedTable t) (text : List ℕ) (says : Say
 
   -- how a course ends
   abbrev ending : Course → Closed
-  ending c = closedWent (c .went .outcome) (c .went) (bytesIn w log) (closedAt (ruleOf f) (eventAt w log) (wholeLines w log) (c .went .monitor) edition)
+  ending c = unlessStopped (heardBy (bytesIn w log) c .answer) (closedAt (ruleOf f) (eventAt w log) (wholeLines w log) (c .went .monitor) edition)
 
   closed-is : closedOf text rule log edition ≡ ending (course t table text says rule f rule-says log)
   unfolding closedOf
-  closed-is =
-      ap (λ (x : Opened). closedFrom x log edition) (behind-rule t table text says rule f rule-says)
-      ∙ ap (λ (r : LogRead). closedIn (r .outcome) o log edition) (log-read t table text says rule f rule-says log es log-says)
-      ∙ ap ending (course-is t table text says rule f rule-says log)
+  closed-is = ap (λ (e : LogEnd). closedEnd e log edition) (end-is t table text says rule f rule-says log es log-says)
 
   presume : VerdictAfter t f es Verdicts.Inconclusive → Presumed f (stretch (since (filled es))) (presumedOf (ruleOf f) event n)
   presume right =
@@ -112,38 +103,25 @@ module _ (t : run.Plant) (table : AcceptedTable t) (text : List ℕ) (says : Say
       (uses-some t f (since (filled es)) right)
 
   -- the lines of the text are the events
-  same : (last : Monitor) → closedAt (ruleOf f) (eventAt w log) (wholeLines w log) last edition ≡ closedAt (ruleOf f) event n last edition
-  same last =
+  same : (m : Monitor) → closedAt (ruleOf f) (eventAt w log) (wholeLines w log) m edition ≡ closedAt (ruleOf f) event n m edition
+  same m =
       let lines = taken t table text says rule f rule-says log es log-says in
       let events : eventAt w log ≡ event = λ i k. lines .events k i in
-      ap₂ (λ (e : ℕ → Event) (k : ℕ). closedAt (ruleOf f) e k last edition) events (lines .many)
+      ap₂ (λ (e : ℕ → Event) (k : ℕ). closedAt (ruleOf f) e k m edition) events (lines .many)
 
-  ended : (last : Monitor) → RightAfter t f es (lampIn (modelOf last)) → Closes t f es edition (closedAt (ruleOf f) event n last edition)
+  ended : (m : Monitor) → VerdictAfter t f es (lampIn (modelOf m) .verdict) → Closes t f es edition (closedAt (ruleOf f) event n m edition)
   unfolding closedAt
-  ended last right = closes t f es (presumedOf (ruleOf f) event n) presume edition (lampIn (modelOf last) .verdict) (lit-right t f (lampIn (modelOf last)) right)
-
-  -- the monitor behind all events, and its lamp
-  abbrev last : Monitor
-  last = watched (countsIn t) (t .fair) (t .label) (t .next) (ruleOf f) (input t table text says rule f rule-says) (take n es) .monitor
-
-  moved : {g h : Formula} {l : Lamp} → g ≡ h → RightAfter t g es l → RightAfter t h es l
-  moved {l = l} e right = subst (λ (x : Formula). RightAfter t x es l) e right
-
-  lamp-right : ((k : ℕ) → k < n → TakenAt t es k) → RightAfter t f es (lampIn (modelOf last))
-  lamp-right all =
-      let given = input t table text says rule f rule-says in
-      let accepted = subst (watching.AllTaken (countsIn t) (t .fair) (t .label) (t .next) (ruleOf f)) (take-length es) (all-taken-to (countsIn t) (t .fair) (t .label) (t .next) (ruleOf f) given es n all (omega arith)) in
-      let shown = ap (watching.after (countsIn t) (t .fair) (t .label) (t .next) (ruleOf f)) (take-length es) ∙ after-model (countsIn t) (t .fair) (t .label) (t .next) (ruleOf f) given es accepted in
-      subst (λ (x : Watched). RightAfter t f es (lampIn (modelOf (x .monitor)))) (sym shown) (moved (formula-is (value t table (rule-says .says))) (behind-taken (countsIn t) (t .fair) (t .label) (t .next) (ruleOf f) given es accepted))
+  ended m right = closes t f es (presumedOf (ruleOf f) event n) presume edition (lampIn (modelOf m) .verdict) right
 
   stopped-as : (k : ℕ) → k < n → ((j : ℕ) → j < k → TakenAt t es j) → (r : Refusal) → Stop (countsIn t) (t .fair) (t .label) (t .next) (ruleOf f) (input t table text says rule f rule-says) es k r
-      → Day t f es edition (stoppedAt r k (lineOf t es k))
+      → Day t f es edition (Stopped (record { refusal = refusedAt (r .kind) (lineOf t es k); event = k }))
   stopped-as k low before r (illegal bad) = at-event k low before bad
   stopped-as k low before r (stray fine bad) = at-number k low before fine bad
 
   day-of : (c : Course) → Gone (countsIn t) (t .fair) (t .label) (t .next) (ruleOf f) (input t table text says rule f rule-says) es n c → Day t f es edition (ending c)
   day-of c (all-taken lamps many named as-many all right numbers is) =
-      rw is (at-end (closedAt (ruleOf f) (eventAt w log) (wholeLines w log) last edition) all (rw (same last) (ended last (lamp-right all))))
+      let m = last t table text says rule f rule-says es in
+      rw is (at-end (closedAt (ruleOf f) (eventAt w log) (wholeLines w log) m edition) all (rw (same m) (ended m (verdict-right t table text says rule f rule-says es all))))
   day-of c (stopped k low lamps many named as-many before r why right numbers m is) =
       rw (is, taken t table text says rule f rule-says log es log-says .wide) (stopped-as k low before r why)
 
@@ -171,18 +149,18 @@ module _ (o : Opened) (log : List ℕ) (room edition : ℕ) where
   answered v k false true = inl (secondOf v k, refl)
   answered v k false false = inr refl
 
-  by-course : (x : Outcome) → courseFrom o log .went .outcome ≡ x → Likewise (heardIn Outcomes.Accepted o log .answer) (closedIn Outcomes.Accepted o log edition)
+  by-course : (x : Outcome) → courseFrom o log .went .outcome ≡ x → Likewise (heardIn Outcomes.Accepted o log .answer) (closedEnd (endIn Outcomes.Accepted o log) log edition)
   unfolding closedAt
   by-course Outcomes.Accepted e = rw e (answered (lampIn (modelOf (courseFrom o log .went .monitor)) .verdict) (presumedOf (o .rule) (eventAt width log) (wholeLines width log)) (eqb edition 1) (eqb edition 2))
   by-course (Outcomes.Refused r) e = rw e refl
 
   by-log : (x : Outcome) → (x ≡ Outcomes.Accepted → leb (read .lines) room ≡ true)
-      → Likewise (heardIn (andThen x (unless (leb (read .lines) room) Room)) o log .answer) (closedIn x o log edition)
+      → Likewise (heardIn (andThen x (unless (leb (read .lines) room) Room)) o log .answer) (closedEnd (endIn x o log) log edition)
   by-log Outcomes.Accepted h = rw (h refl) (by-course (courseFrom o log .went .outcome) refl)
   by-log (Outcomes.Refused r) h = refl
 
   by-opened : (x : Outcome) → (read .outcome ≡ Outcomes.Accepted → leb (read .lines) room ≡ true)
-      → Likewise (heardIn (andThen x (logChecked (o .table .plant .props) log room)) o log .answer) (closedIn (andThen x (read .outcome)) o log edition)
+      → Likewise (heardIn (andThen x (logChecked (o .table .plant .props) log room)) o log .answer) (closedEnd (endIn (andThen x (read .outcome)) o log) log edition)
   unfolding logChecked
   by-opened Outcomes.Accepted h = by-log (read .outcome) h
   by-opened (Outcomes.Refused r) h = refl
@@ -195,7 +173,7 @@ few-lines width log ok =
 
 -- ANY TEXTS ARE REFUSED AS A WHOLE LOG IS
 pub as-watched : AsWatched
-unfolding heardOf closedOf
+unfolding heardOf closedOf endOf
 as-watched table rule log before edition room =
     let o = openedOf table rule in
     by-opened o log (length before) edition (o .outcome)

@@ -1,5 +1,5 @@
 -- THE COLUMNS OF A FIXED MACHINE (02, g): the legal events, by see first, within one see by val, and of each the one without restart first. What must be believed of columns is `columnsOf`.
-use Prim.Native.Nat.{ℕ, zero, suc, _+_, _*_, _/_, _%_, _^_, _≤_, _<_}
+use Prim.Native.Nat.{ℕ, zero, suc, _+_, _/_, _%_, _^_, _≤_, _<_}
 use mathlib.Core.Path.{_≡_, refl, ap, _∙_}
 use mathlib.Core.Bool.{Bool, true, false, cond}
 use mathlib.Core.List.{List, [], _∷_, _++_}

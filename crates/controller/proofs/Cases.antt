@@ -1,4 +1,4 @@
--- What a whole log is answered, by what each check says and by how its course went.
+-- What a whole log is answered and where it ends, by what each check says and by how its course went.
 use Prim.Native.Nat.{ℕ, _*_, _≤_, _<_}
 use native.Mathlib.Nat.{le-trans}
 use native.Mathlib.Omega.{arith}
@@ -14,22 +14,24 @@ use Rattle.answers.specs.declared.Outcome.the-variants.{Accepted, Refused}
 use Rattle.answers.specs.Paper.{refusedAt}
 use Rattle.text.specs.Number.{widthOf}
 use Rattle.text.specs.Lines.{lineStart, start-is, lines-inside}
+use Rattle.syntax.specs.declared.Rule.{Rule}
 use Rattle.log.specs.declared.LogRead.{LogRead}
 use Rattle.log.specs.Line.{line-fixed}
-use Rattle.log.specs.Read.{isNumbered, bytesIn, wholeLines, logRead}
+use Rattle.log.specs.Read.{isNumbered, bytesIn, eventAt, wholeLines, logRead}
 use Rattle.log.specs.Promises.{accepted-text}
 use Rattle.log.specs.Forms.{lines-many}
 use Rattle.answers.specs.Chain.{andThen, unless, chain-accepts, unless-accepts}
 use Rattle.course.specs.declared.Went.{Went}
-use Rattle.course.specs.Laid.{laid-over}
-use Rattle.course.specs.Course.{Course, verdictBytes, Followed}
-use Rattle.course.specs.Lamps.{Counted}
+use Rattle.course.specs.Laid.{laid, laid-over}
+use Rattle.course.specs.Course.{verdictBytes, Followed}
+use Rattle.course.specs.Lamps.{Counted, counted}
 use Rattle.opened.specs.declared.Opened.{Opened}
 use Rattle.opened.specs.Lent.{Lent}
-use Rattle.opened.specs.Opened.{openedOf}
-use Rattle.opened.specs.Fits.{Fits, opened-lent, opened-fits}
+use Rattle.opened.specs.Opened.{fairIn, labelIn, nextIn, openedOf}
+use Rattle.opened.specs.Fits.{Fits, opened-lent, opened-fits, opened-short}
+use Rattle.controller.specs.declared.LogEnd.{LogEnd}
 use Rattle.controller.specs.declared.LogAnswer.{LogAnswer}
-use Rattle.controller.specs.Whole.{Says, logChecked, endAt, heardBy, heardIn, heardFrom, heardOf}
+use Rattle.controller.specs.Whole.{Says, courseFrom, logChecked, endAt, heardIn, heardFrom, heardOf, endIn, endFrom, endOf}
 
 -- ---- the log and the buffer
 
@@ -82,15 +84,64 @@ module _ (table rule : List ℕ) {o : Opened} (e : o ≡ openedOf table rule) wh
 
 -- ---- the course of the log
 
-module _ {c : Course} {n : ℕ} (h : Counted n c) {verdicts₀ lefts₀ numbers₀ verdicts lefts numbers : List ℕ} {w : Went} (f : Followed c verdicts₀ lefts₀ numbers₀ verdicts lefts numbers w) where
-  -- the line behind the events taken is within the text
-  pub line-within : (props : ℕ) (log : List ℕ) {bytes : ℕ} → bytes ≡ bytesIn (widthOf props) log → n ≡ wholeLines (widthOf props) log → w .done * bytes ≤ length log
-  line-within props log {bytes} wide is =
-      lines-inside bytes (length log) (w .done) (omega (arith, wide, line-fixed (isNumbered log) (widthOf props) .some))
-      (rw wide (omega (arith, is, h .few, h .done, ap (λ (x : Went). x .done) (f .went))))
+module _ (o : Opened) (log : List ℕ) where
+  abbrev width : ℕ
+  width = widthOf (o .table .plant .props)
 
-  pub went-so : n ≤ length verdicts₀ → {wide bytes : ℕ} → bytes ≡ wide → {r : LogAnswer} → r ≡ endAt (w .done * bytes) (w .outcome) (w .done) → Says (heardBy wide c) verdicts₀ verdicts r
-  went-so room {wide} is e = record {
-    answer = rw (is, ← start-is wide (w .done)) at e ∙ ap (λ (x : Went). endAt (lineStart wide (x .done)) (x .outcome) (x .done)) (f .went);
-    bytes = f .verdicts-are ∙ laid-over (verdictBytes (c .lamps)) verdicts₀ (rw length-map (le-trans (h .few) room));
+  -- its events are counted
+  pub told : Counted (wholeLines width log) (courseFrom o log)
+  told = counted (o .table .plant) (fairIn (o .table)) (labelIn (o .table)) (nextIn (o .table)) (o .rule) (o .live) (o .monitor) (eventAt width log) (wholeLines width log)
+
+  module _ {verdicts₀ lefts₀ numbers₀ verdicts lefts numbers : List ℕ} {w : Went} (f : Followed (courseFrom o log) verdicts₀ lefts₀ numbers₀ verdicts lefts numbers w)
+      {bytes : ℕ} (wide : bytes ≡ bytesIn width log) where
+    -- the line behind the events taken is within the text
+    pub line-within : w .done * bytes ≤ length log
+    line-within =
+        lines-inside bytes (length log) (w .done) (omega (arith, wide, line-fixed (isNumbered log) width .some))
+        (rw wide (omega (arith, told .few, told .done, ap (λ (x : Went). x .done) (f .went))))
+
+    pub ends-so : {a : LogAnswer} → a ≡ endAt (w .done * bytes) (w .outcome) (w .done) → record { answer = a; table = o .table; rule = o .rule; last = w .monitor } ≡ endIn Accepted o log
+    ends-so {a} e = λ i. record { answer = answer i; table = o .table; rule = o .rule; last = f .went i .monitor }
+      where
+        answer : a ≡ heardIn Accepted o log .answer
+        answer = rw (wide, ← start-is (bytesIn width log) (w .done)) at e ∙ ap (λ (x : Went). endAt (lineStart (bytesIn width log) (x .done)) (x .outcome) (x .done)) (f .went)
+
+  -- with a byte for each line there is room for all verdicts
+  pub heard-so : {before now : List ℕ} {e : LogEnd} → wholeLines width log ≤ length before → e ≡ endIn Accepted o log → now ≡ laid (verdictBytes (courseFrom o log .lamps)) before
+      → Says (heardIn Accepted o log) before now (e .answer)
+  heard-so {before} room e is = record {
+    answer = ap (λ (x : LogEnd). x .answer) e;
+    bytes = is ∙ laid-over (verdictBytes (courseFrom o log .lamps)) before (rw length-map (le-trans (told .few) room));
   }
+
+-- ---- where it ends
+
+pub end-by : (o : Opened) (log : List ℕ) {x y z : Outcome} → x ≡ y → x ≡ z → {r : LogEnd} → r ≡ endIn z o log → r ≡ endIn y o log
+end-by o log e f is = is ∙ ap (λ (x : Outcome). endIn x o log) (sym f ∙ e)
+
+pub end-from : (table rule log : List ℕ) {o : Opened} → o ≡ openedOf table rule → {x : Outcome} → o .outcome ≡ x → {r : LogEnd}
+    → r ≡ endIn (andThen x (logRead (widthOf (o .table .plant .props)) log .outcome)) o log → r ≡ endOf table rule log
+unfolding endOf
+end-from table rule log {o} e f is =
+    is ∙ ap (λ (x : Outcome). endIn (andThen x (logRead (widthOf (o .table .plant .props)) log .outcome)) o log) (sym f) ∙ ap (λ (x : Opened). endFrom x log) e
+
+-- the table and the rule are those that were opened, so the table's parts can be lent, and the rule is not too long
+table-stands : (x : Outcome) (o : Opened) (log : List ℕ) → endIn x o log .table ≡ o .table
+table-stands Accepted o log = refl
+table-stands (Refused r) o log = refl
+
+rule-stands : (x : Outcome) (o : Opened) (log : List ℕ) → endIn x o log .rule ≡ o .rule
+rule-stands Accepted o log = refl
+rule-stands (Refused r) o log = refl
+
+module _ (table rule log : List ℕ) {e : LogEnd} (is : e ≡ endOf table rule log) where
+  abbrev checked-by : Outcome
+  checked-by = andThen (openedOf table rule .outcome) (logRead (widthOf (openedOf table rule .table .plant .props)) log .outcome)
+
+  pub end-lent : Lent (e .table)
+  unfolding endOf
+  end-lent = subst Lent (sym (ap (λ (x : LogEnd). x .table) is ∙ table-stands checked-by (openedOf table rule) log)) (opened-lent table rule)
+
+  pub end-short : e .rule .len ≤ 32
+  unfolding endOf
+  end-short = subst (λ (r : Rule). r .len ≤ 32) (sym (ap (λ (x : LogEnd). x .rule) is ∙ rule-stands checked-by (openedOf table rule) log)) (opened-short table rule)

@@ -1,11 +1,12 @@
 -- WHAT A WHOLE LOG IS ANSWERED: the texts are opened, the log and the buffer checked, and then the public step is taken line after line, up to the first event
--- that is refused.
+-- that is refused. And WHERE IT ENDS: what stands behind that, with no buffer.
 use Prim.Native.Nat.{ℕ}
 use mathlib.Core.Path.{_≡_}
 use mathlib.Core.List.{List, []}
 use lib.Dec.{leb}
 use Rattle.words.specs.Over.{over}
 use Rattle.answers.specs.declared.Kind.the-variants.{Room}
+use Rattle.answers.specs.declared.Refusal.{Refusal}
 use Rattle.answers.specs.declared.Outcome.{Outcome}
 use Rattle.answers.specs.declared.Outcome.the-variants as Outcomes
 use Rattle.answers.specs.Paper.{refusedAt}
@@ -13,10 +14,10 @@ use Rattle.text.specs.Number.{widthOf}
 use Rattle.text.specs.Lines.{lineStart}
 use Rattle.log.specs.Read.{bytesIn, logRead}
 use Rattle.answers.specs.Chain.{andThen, unless}
-use Rattle.course.specs.declared.Went.{Went}
 use Rattle.course.specs.Course.{Course, courseOf, verdictBytes}
 use Rattle.opened.specs.declared.Opened.{Opened}
 use Rattle.opened.specs.Opened.{fairIn, labelIn, nextIn, openedOf}
+use Rattle.controller.specs.declared.LogEnd.{LogEnd}
 use Rattle.controller.specs.declared.LogAnswer.{LogAnswer}
 use Rattle.controller.specs.declared.LogAnswer.the-variants.{Watched, Stopped, Refused}
 
@@ -59,3 +60,25 @@ heardOf table rule log room = heardFrom (openedOf table rule) log room
 pub record Says (h : Heard) (before now : List ℕ) (r : LogAnswer) : Type 0 where
   pub answer : r ≡ h .answer
   pub bytes : now ≡ over (h .bytes) before
+
+-- ---- where it ends
+
+-- before the first line: the monitor is as it was opened
+abbrev pub endRefused : Opened → Refusal → LogEnd
+endRefused o r = record { answer = Refused r; table = o .table; rule = o .rule; last = o .monitor }
+
+-- by a course: the answer is the one that is heard, and the monitor is behind the last event taken
+abbrev pub endBy : Opened → ℕ → Course → LogEnd
+endBy o bytes c = record { answer = heardBy bytes c .answer; table = o .table; rule = o .rule; last = c .went .monitor }
+
+-- behind the checks
+abbrev pub endIn : Outcome → Opened → List ℕ → LogEnd
+endIn Outcomes.Accepted o log = endBy o (bytesIn (widthOf (o .table .plant .props)) log) (courseFrom o log)
+endIn (Outcomes.Refused r) o log = endRefused o r
+
+abbrev pub endFrom : Opened → List ℕ → LogEnd
+endFrom o log = endIn (andThen (o .outcome) (logRead (widthOf (o .table .plant .props)) log .outcome)) o log
+
+-- the texts of a table, a rule and a log
+unfoldable pub endOf : List ℕ → List ℕ → List ℕ → LogEnd
+endOf table rule log = endFrom (openedOf table rule) log

@@ -1,8 +1,8 @@
 -- What the loop over a log has done behind n lines, and that it goes on, stops and ends as the definition says.
-use Prim.Native.Nat.{ℕ, zero, suc, _+_, _-_, _/_, _%_, _^_, _≤_, _<_}
+use Prim.Native.Nat.{ℕ, suc, _+_, _-_, _%_, _^_, _<_}
 use native.Mathlib.Numerals.{add-one}
 use native.Mathlib.Omega.{arith}
-use mathlib.Core.Path.{_≡_, refl, sym, ap, ap₂, subst, _∙_}
+use mathlib.Core.Path.{_≡_, refl, ap, subst, _∙_}
 use mathlib.Core.Bool.{Bool, true, false, So, cond, false≢true}
 use mathlib.Core.List.{List, [], _∷_, _++_, map, map-append}
 use lib.ListN.{length, set, length-append, length-map}
@@ -23,10 +23,8 @@ use Rattle.sides.specs.Held.{modelOf, lampIn}
 use Rattle.event_numbers.specs.Numbers as numbers
 use Rattle.event_numbers.specs.Numbers.{inTurn, in-turn-says, eventOutcome}
 use Rattle.sides.specs.Sides.{takenIn}
-use Rattle.monitor.specs.declared.Watched.{Watched}
-use Rattle.course.specs.declared.Went.{Went}
 use Rattle.course.specs.Laid.{laid, laid-more, laid-length}
-use Rattle.course.specs.Course.{Course, takes, numberIn, goOn, courseTo, turnOf, turn, verdictBytes, leftBytes, Followed}
+use Rattle.course.specs.Course.{Course, takes, numberIn, courseTo, turnOf, turn, verdictBytes, leftBytes, Followed}
 use Rattle.course.specs.CourseRight.{stays}
 
 -- a number that is accepted fits 32 bits

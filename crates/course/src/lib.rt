@@ -17,7 +17,6 @@ ghost use Prim.Native.Nat.{_≤_, _%_};
 ghost use lib.ListN.{length, set};
 ghost use Rattle.answers.specs.declared.Outcome.the-variants.{Accepted};
 ghost use Rattle.answers.specs.Paper.{numberOf};
-ghost use Rattle.checks.specs.Checks.{inputOutcome};
 ghost use Rattle.course.specs.Course.{Followed, courseIn, courseOf, Fitting};
 
 // Accepted where no event was refused, and else the refusal; how many events were taken; and the monitor behind them.
@@ -28,7 +27,7 @@ pub struct Went {
 }
 
 // A byte is stored where there is room for it.
-fn store(bytes: &mut [u8], at: usize, byte: u8)
+pub fn store(bytes: &mut [u8], at: usize, byte: u8)
     ensures { λ _. ⌜ now (bytes .exit) ≡ set (now (bytes .entry)) at byte ⌝ }
 {
     if at < bytes.len() {

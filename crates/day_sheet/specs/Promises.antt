@@ -6,11 +6,11 @@ use native.Mathlib.Omega.{arith}
 use native.Mathlib.Decide.{decLt}
 use mathlib.Core.Path.{_≡_, refl, sym, ap, ap₂, subst, _∙_}
 use mathlib.Core.Logic.{_↔_}
-use mathlib.Core.Bool.{Bool, true, false, not, cond, _&&_, _||_, false≢true}
-use mathlib.Core.List.{List, [], _∷_, _++_, map, foldl, foldl-append, append-assoc, append-nil}
+use mathlib.Core.Bool.{Bool, true, false, cond, _&&_, false≢true}
+use mathlib.Core.List.{List, [], _∷_, _++_, foldl, foldl-append, append-assoc, append-nil}
 use lib.Dec.{eqb, ltb}
 use lib.ListN.{length, replicate, length-append}
-use borrow.Author.Tests.{ltb-false, le-ltb, eq-eqb, ne-eqb, eqb-true}
+use borrow.Author.Tests.{le-ltb, eq-eqb, eqb-true}
 use Rattle.meaning.specs.Formula.{Formula}
 use Rattle.meaning.specs.Run as run
 use Rattle.meaning.specs.Event as meaning
@@ -35,7 +35,7 @@ use Rattle.checks.specs.Checks.{inputOutcome}
 use Rattle.checks.specs.Input.{Input}
 use Rattle.sides.specs.declared.Monitor.{Monitor}
 use Rattle.log.specs.Legal.{eventOf, legalOf}
-use Rattle.sides.specs.Held.{modelOf, monitorOf}
+use Rattle.sides.specs.Held.{monitorOf}
 use Rattle.event_numbers.specs.Numbers.{numberOf, missingOf, first-none, unseen, brings, InTurn, inTurn, eventOutcome}
 use Rattle.monitor.specs.declared.Watched.{Watched}
 use Rattle.monitor.specs.Calls.{watched, openCall, stepCall}

@@ -2,9 +2,8 @@
 use Prim.Native.Nat.{ℕ, zero, suc, _+_, _-_, _≤_, _<_}
 use native.Mathlib.Omega.{arith}
 use mathlib.Core.Path.{_≡_, refl, sym, ap, ap₂, _∙_}
-use mathlib.Core.Bool.{Bool, true, false, not, cond, false≢true}
+use mathlib.Core.Bool.{Bool, true, false, cond, false≢true}
 use mathlib.Core.List.{List, [], _∷_, _++_, foldl, foldl-append}
-use lib.Dec.{ltb}
 use lib.ListN.{length, replicate}
 use borrow.Author.Tests.{le-ltb, lt-ltb}
 use Rattle.meaning.specs.Formula.{Formula}
@@ -42,13 +41,13 @@ use Rattle.event_numbers.specs.Numbers.{numberOf, missingOf, first-none, unseen
 use Rattle.sides.specs.Sides.{advancedIn}
 use Rattle.sides.specs.SidesRight.{advanced-right}
 use Rattle.monitor.specs.declared.Watched.{Watched}
-use Rattle.monitor.specs.Calls.{lampOf, watched, stepChecked, stepCall}
+use Rattle.monitor.specs.Calls.{watched, stepChecked, stepCall}
 use Rattle.monitor.specs.Promises.{step-accepted}
 use Rattle.watching.specs.Watching.{brought-sets}
 use Rattle.stretches.specs.declared.DaySheet.{DaySheet}
 use Rattle.stretches.specs.Sheet.{notedBy}
 use Rattle.day_sheet.specs.declared.Noted.{Noted}
-use Rattle.day_sheet.specs.Afresh.{Numbered, countFrom, numberedBy, verdictIn}
+use Rattle.day_sheet.specs.Afresh.{Numbered, countFrom, verdictIn}
 use Rattle.day_sheet.specs.Calls.{Day, opensOf, noteStep, sheetAfter, Shows, isFull, refusedWith, noteBy, overfullBy, notedOf}
 use Rattle.day_sheet.specs.Code.{unseenTo, unseenSheet, sheetIn, missing-few}
 

@@ -1,15 +1,14 @@
 -- WHAT IS PROMISED OF THE WORDS OF A SHEET: a sheet that was stored is read back, all zero is the empty one, and nothing is cut off silently.
 use Prim.Native.Nat.{ℕ, zero, suc, _+_, _-_, _≤_, _<_}
-use mathlib.Core.Path.{_≡_, refl, sym, ap, ap₂, _∙_}
-use mathlib.Core.Bool.{Bool, true, false, So, cond}
+use mathlib.Core.Path.{_≡_, refl, sym, ap₂, _∙_}
+use mathlib.Core.Bool.{true, false, cond}
 use mathlib.Core.List.{List}
 use native.Mathlib.Omega.{arith}
-use lib.Dec.{ltb}
 use lib.ListN.{length, getD, replicate}
-use borrow.Author.Tests.{lt-ltb, le-ltb, eq-eqb, ne-eqb}
+use borrow.Author.Tests.{lt-ltb, le-ltb, ne-eqb}
 use Rattle.words.specs.Below.{allBelow, listBelow}
 use Rattle.words.specs.Folds.{all-of}
-use Rattle.words.specs.Lists.{length-list, at-list, of-list, list-at, zeros}
+use Rattle.words.specs.Lists.{of-list, list-at, zeros}
 use Rattle.answers.specs.declared.Verdict.{Verdict}
 use Rattle.answers.specs.declared.Verdict.the-variants.{Inconclusive, True, False, OutOfModel}
 use Rattle.answers.specs.Paper.{numberOf}

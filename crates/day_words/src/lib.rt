@@ -90,12 +90,6 @@ pub fn sheet_in(words: [u64; 260]) -> DaySheet
     }
 }
 
-fn wide(number: u8) -> u64
-    ensures { λ r. ⌜ r ≡ number ⌝ }
-{
-    number as u64
-}
-
 // A word of a sheet.
 fn sheet_word(sheet: DaySheet, at: usize) -> u64
     requires { ⌜ at < 257 ⌝ }
@@ -116,7 +110,7 @@ fn sheet_word(sheet: DaySheet, at: usize) -> u64
     if at < 193 {
         let line = lines[at - 129];
         let verdict = line.verdict;
-        return wide(verdict.number());
+        return words::of_byte(verdict.number());
     }
     let line = lines[at - 193];
     line.decided

@@ -1,7 +1,6 @@
 -- The numbers of events (02, h). A monitor keeps whether an event came, and which number is expected next; 2 ^ 32, the first that does not fit 32 bits,
 -- says that all are used up.
 use Prim.Native.Nat.{ℕ, _+_, _-_, _^_, _≤_, _<_}
-use native.Mathlib.Omega.{arith}
 use mathlib.Core.Path.{_≡_, refl}
 use mathlib.Core.Logic.{Iff·trans}
 use mathlib.Core.Bool.{Bool, true, false, So, _&&_, _||_, not, cond}

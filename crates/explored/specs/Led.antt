@@ -1,11 +1,11 @@
 -- The monitor after the event of a place, by where the first column of its row led.
 use Prim.Native.Nat.{ℕ, _+_, _-_, _*_, _/_, _%_, _≤_, _<_}
-use mathlib.Core.Path.{_≡_, refl, sym, ap, ap₂, _∙_}
-use mathlib.Core.Bool.{Bool, true, false, cond}
+use mathlib.Core.Path.{_≡_, sym, ap, ap₂, _∙_}
+use mathlib.Core.Bool.{true}
 use mathlib.Core.List.{List}
 use native.Mathlib.Omega.{arith}
 use native.Mathlib.Nat.{mod-le, div-add-mod', mul-add-mod-self-right, mul-add-div-right, mod-eq-of-lt, div-eq-of-lt, add-zero}
-use lib.ListN.{length, getD, drop}
+use lib.ListN.{getD, drop}
 use lib.Seq.{getD-drop}
 use Rattle.log.specs.declared.Event.{Event}
 use Rattle.ways.specs.declared.Ways.{Ways}
@@ -14,7 +14,7 @@ use Rattle.sides.specs.Sides.{advancedBy, advancedIn}
 use Rattle.narrowed.specs.Narrowed.{narrowedIn, narrowed-is, advanced-whole}
 use Rattle.columns.specs.Columns.{eventAt}
 use Rattle.explored.specs.Blocks.{blockAt}
-use Rattle.explored.specs.States.{blockOf, monitorFrom, monitorIn, blockAfter, Found, block-back}
+use Rattle.explored.specs.States.{monitorFrom, monitorIn, blockAfter, Found, block-back}
 
 -- where the first column of a place's row has its cell
 abbrev pub firstCell : ℕ → ℕ → ℕ

@@ -4,7 +4,6 @@ use Prim.Native.Nat.{ℕ, zero, suc, _+_, _-_, _*_, _/_, _%_, _^_, _≤_, _<_}
 use mathlib.Core.Path.{_≡_, refl, sym, ap, subst, _∙_}
 use mathlib.Core.Bool.{Bool, true, false, not, cond}
 use mathlib.Core.List.{List}
-use mathlib.Core.Logic.{_⊎_}
 use native.Mathlib.Omega.{arith}
 use lib.Dec.{eqb, ltb}
 use lib.ListN.{length, getD, drop}
@@ -17,7 +16,6 @@ use Rattle.pairs.specs.Sets.{leftOf}
 use Rattle.model.specs.Monitor as model
 use Rattle.answers.specs.declared.Lamp.{Lamp}
 use Rattle.answers.specs.Paper.{numberOf}
-use Rattle.log.specs.declared.Event.{Event}
 use Rattle.ways.specs.declared.Ways.{Ways}
 use Rattle.sides.specs.declared.Monitor.{Monitor}
 use Rattle.sides.specs.Held.{modelOf, lampIn}

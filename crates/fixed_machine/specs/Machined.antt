@@ -42,7 +42,7 @@ use Rattle.machines.specs.Coded.{Coded, coded-made, coded-more, coded-back}
 use Rattle.explored.specs.States.{lampNumber, blockOf, monitorIn, blockAfter, answerOf, block-back}
 use Rattle.fixed_machine.specs.declared.Made.{Made}
 use Rattle.fixed_machine.specs.declared.Made.the-variants as Mades
-use Rattle.fixed_machine.specs.Worked.{Laid, Worked, over, made, WorkedOn}
+use Rattle.fixed_machine.specs.Worked.{Worked, over, made, WorkedOn}
 
 -- ---- what is believed
 

@@ -20,9 +20,6 @@ ghost use lib.ListN.{length, replicate};
 ghost use Rattle.truth.specs.Ready.{Ready};
 ghost use Rattle.machines.specs.Machine.{Proper};
 ghost use Rattle.machines.specs.Joined.{joined};
-ghost use Rattle.machines.specs.Held.{machineOf};
-ghost use Rattle.columns.specs.Columns.{countOf};
-ghost use Rattle.ways.specs.Ways.{waysOf};
 ghost use Rattle.fixed_machine.specs.Worked.{Laid, machineIn, WorkedIn, WorkedOn};
 ghost use Rattle.fixed_machine.specs.Machined.{Machined};
 

@@ -5,3 +5,4 @@ pub mod FromTexts
 pub mod OneOutput
 pub mod FromLog
 pub mod WholeLog
+pub mod AtEnd

@@ -3,6 +3,7 @@ use answers::Lamp;
 use answers::Refusal;
 use answers::Verdict;
 use report::Line;
+use words::index_of;
 ghost use mathlib.Core.Path.{_≡_};
 ghost use Prim.Native.Nat.{_+_, _*_, _≤_};
 ghost use lib.ListN.{length, take};
@@ -55,12 +56,6 @@ fn verdict_of(number: u8) -> Verdict
     Verdict::OutOfModel
 }
 
-fn wide(x: u8) -> usize
-    ensures { λ r. ⌜ r ≡ x ⌝ }
-{
-    x as usize
-}
-
 fn put_lamp(out: &mut [u8], at: usize, number: u64, verdict: u8, left: u8) -> usize
     requires { ⌜ at + 70 ≤ length (now out) ⌝ }
     ensures text { λ r. ⌜ Put (now (out .entry)) at (lampText number (lampOf verdict left)) (now (out .exit)) r ⌝ }
@@ -68,7 +63,7 @@ fn put_lamp(out: &mut [u8], at: usize, number: u64, verdict: u8, left: u8) -> us
 {
     let lamp = Lamp {
         verdict: verdict_of(verdict),
-        left: wide(left),
+        left: index_of(left),
     };
     let line = report::lamp_line(number as usize, lamp);
     put_line(out, at, line)

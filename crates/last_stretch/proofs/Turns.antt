@@ -2,9 +2,9 @@
 use Prim.Native.Nat.{ℕ, suc, _+_, _-_, _≤_, _<_}
 use native.Mathlib.Omega.{arith}
 use mathlib.Core.Path.{_≡_, refl, sym, ap, ap₂, subst, _∙_}
-use mathlib.Core.Bool.{Bool, true, false, _&&_, not, cond, false≢true}
+use mathlib.Core.Bool.{Bool, true, false, _&&_, not, cond}
 use lib.Dec.{ltb}
-use borrow.Author.Tests.{ltb-true, ltb-false, not-true, not-false}
+use borrow.Author.Tests.{ltb-true, ltb-false}
 use Rattle.meaning.specs.Bit.{bit}
 use Rattle.words.specs.Truth.{and-says}
 use Rattle.syntax.specs.declared.Rule.{Rule}
@@ -12,7 +12,7 @@ use Rattle.log.specs.declared.Event.{Event}
 use Rattle.within.specs.Props.{propsOf}
 use Rattle.last_stretch.specs.declared.Back.{Back}
 use Rattle.last_stretch.specs.declared.Found.{Found}
-use Rattle.last_stretch.specs.Stretch.{begins, behindLast, furtherOf, backFrom, stretchOf, foundIn, foundOf}
+use Rattle.last_stretch.specs.Stretch.{begins, behindLast, furtherOf, backFrom, foundIn, foundOf}
 
 module _ (rule : Rule) (used : ℕ) (event : ℕ → Event) (n : ℕ) where
   -- the lines from `line` on were looked at, and the stretch begins there or before

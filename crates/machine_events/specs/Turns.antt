@@ -12,7 +12,6 @@ use lib.ListN.{length, getD, set, length-append, length-drop}
 use Rattle.words.specs.Over.{over, over-set}
 use Rattle.answers.specs.declared.Kind.the-variants.{Counts, Value, Room}
 use Rattle.answers.specs.declared.Refusal.{Refusal}
-use Rattle.answers.specs.declared.Outcome.{Outcome}
 use Rattle.answers.specs.declared.Outcome.the-variants.{Accepted, Refused}
 use Rattle.columns.specs.Columns.{countOf}
 use Rattle.log.specs.declared.Event.{Event}

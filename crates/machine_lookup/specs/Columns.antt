@@ -1,6 +1,6 @@
 -- The column of a legal event is where the columns have it.
 use Prim.Native.Nat.{ℕ, zero, suc, _+_, _*_, _/_, _%_, _^_, _≤_, _<_}
-use mathlib.Core.Path.{_≡_, refl, sym, ap, ap₂, subst, _∙_}
+use mathlib.Core.Path.{_≡_, refl}
 use mathlib.Core.Bool.{Bool, true, false, So, _&&_, _||_, not, cond}
 use native.Mathlib.Omega.{arith}
 use lib.Bits.{bitAnd, and-le-r}

@@ -1,7 +1,7 @@
 -- The same steps where states are written another way, as monitors are in words: what is made of the one is made of the other.
 use Prim.Native.Nat.{ℕ, _<_}
 use mathlib.Core.Path.{_≡_, refl, sym, ap, _∙_}
-use mathlib.Core.List.{List, [], _∷_}
+use mathlib.Core.List.{List}
 use Rattle.machines.specs.Machine.{Machine, Columns, none, more}
 use Rattle.machines.specs.Explored.{MoreThan}
 use Rattle.machines.specs.Follow.{stepped}

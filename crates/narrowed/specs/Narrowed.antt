@@ -1,22 +1,22 @@
 -- AN EVENT BY ONE THAT SEES NOTHING: behind the first event, what an event leads to is what the event that sees nothing and restarts nothing leads to, cut to the
 -- states that agree, and at a restart united and split anew. `narrowed-is` says so.
-use Prim.Native.Nat.{ℕ, _≤_, _<_}
-use mathlib.Core.Path.{_≡_, refl, sym, ap, ap₂, subst, _∙_}
+use Prim.Native.Nat.{ℕ, _≤_}
+use mathlib.Core.Path.{_≡_, refl, sym, ap, ap₂, _∙_}
 use mathlib.Core.Bool.{Bool, true, false, So, _&&_, _||_, cond}
 use mathlib.Core.Logic.{_⊎_, inl, inr, ⊎-elim}
 use mathlib.Core.List.{List}
 use native.Mathlib.Omega.{arith}
-use lib.Bits.{bitAnd, bitXor, and-zero-r}
+use lib.Bits.{bitXor, and-zero-r}
 use lib.Dec.{eqb, ltb}
 use lib.ListN.{length, getD}
-use borrow.Author.Tests.{lt-ltb, ltb-true}
+use borrow.Author.Tests.{lt-ltb}
 use Rattle.meaning.specs.Bit.{bit}
 use Rattle.words.specs.Laws.{bit-and}
 use Rattle.words.specs.Lists.{length-words}
 use Rattle.words.specs.Unions.{bit-wordOf}
 use Rattle.words.specs.Truth.{so-ext, and-says, or-says}
 use Rattle.pairs.specs.Sets.{inside, joinOf, inside-words, inside-join, pairs-ext}
-use Rattle.moves.specs.Image.{reachedAt, imageAt, imageOf, leadsTo, bit-reached, MoveTo, leads-move, move-leads}
+use Rattle.moves.specs.Image.{reachedAt, imageAt, imageOf, bit-reached, MoveTo, leads-move, move-leads}
 use Rattle.labels.specs.Labels.{agrees, agreeingOf}
 use Rattle.leads.specs.Halves.{fromIn, toIn}
 use Rattle.log.specs.declared.Event.{Event}

@@ -2,7 +2,7 @@
 use Prim.Native.Nat.{ℕ, _+_, _-_, _≤_, _<_, zero-le}
 use native.Mathlib.Omega.{arith}
 use native.Mathlib.Decide.{decLt}
-use mathlib.Core.Path.{_≡_, refl, sym, ap, _∙_}
+use mathlib.Core.Path.{_≡_, refl, sym, _∙_}
 use mathlib.Core.Bool.{Bool, true, false, cond}
 use mathlib.Core.List.{List, _++_}
 use lib.Dec.{ltb}
@@ -12,11 +12,9 @@ use Rattle.io.proofs.Counting.{counts}
 use Rattle.writing.specs.Put.{Put, puts, put-over}
 use Rattle.answers.specs.declared.Kind.the-variants.{Value, RunLength}
 use Rattle.answers.specs.declared.Refusal.{Refusal}
-use Rattle.answers.specs.declared.Outcome.{Outcome}
 use Rattle.answers.specs.declared.Outcome.the-variants.{Accepted, Refused}
 use Rattle.answers.specs.Paper.{refusedAt}
 use Rattle.neighbour.specs.declared.sent.ShownRun.{ShownRun}
-use Rattle.neighbour.specs.declared.sent.Report.{Report}
 use Rattle.neighbour.specs.Report.{noRun, joinedOf, shownOf, RunSized, Sized, tooLong, reportChecked}
 
 -- ---- a run

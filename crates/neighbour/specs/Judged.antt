@@ -1,28 +1,27 @@
--- WHAT A REPORT IS ANSWERED: the texts are opened, the log is checked, and the public step is taken line after line. Behind the last event the claim and the lengths are
--- checked, then the needed runs are, and then the claim is compared with the verdict.
+-- WHAT A REPORT IS ANSWERED: the log is followed to its end. Behind the last event the claim and the lengths are checked, then the needed runs are, and then the claim is
+-- compared with the verdict.
 use Prim.Native.Nat.{ℕ}
 use mathlib.Core.Bool.{Bool, true, false, _||_, cond}
 use mathlib.Core.List.{List}
 use lib.Dec.{eqb}
 use lib.ListN.{take}
 use Rattle.answers.specs.declared.Verdict.{Verdict}
-use Rattle.answers.specs.declared.Refusal.{Refusal}
 use Rattle.answers.specs.declared.Outcome.{Outcome}
 use Rattle.answers.specs.declared.Outcome.the-variants as Outcomes
-use Rattle.answers.specs.Paper.{numberOf, refusedAt}
-use Rattle.answers.specs.Chain.{andThen}
+use Rattle.answers.specs.Paper.{numberOf}
 use Rattle.text.specs.Number.{widthOf}
-use Rattle.text.specs.Lines.{lineStart}
 use Rattle.plant.specs.declared.Plant.{Plant}
+use Rattle.plant.specs.declared.Table.{Table}
 use Rattle.syntax.specs.declared.Rule.{Rule}
 use Rattle.log.specs.declared.Event.{Event}
-use Rattle.log.specs.Read.{bytesIn, logRead, eventAt, wholeLines}
+use Rattle.log.specs.Read.{eventAt, wholeLines}
 use Rattle.sides.specs.declared.Monitor.{Monitor}
 use Rattle.sides.specs.Held.{modelOf, lampIn}
-use Rattle.course.specs.declared.Went.{Went}
-use Rattle.opened.specs.declared.Opened.{Opened}
-use Rattle.opened.specs.Opened.{fairIn, labelIn, nextIn, openedOf}
-use Rattle.controller.specs.Whole.{courseFrom}
+use Rattle.opened.specs.Opened.{fairIn, labelIn, nextIn}
+use Rattle.controller.specs.declared.LogAnswer.{LogAnswer}
+use Rattle.controller.specs.declared.LogAnswer.the-variants as Logs
+use Rattle.controller.specs.declared.LogEnd.{LogEnd}
+use Rattle.controller.specs.Whole.{endOf}
 use Rattle.shown.specs.declared.Found.{Found}
 use Rattle.shown.specs.declared.Found.the-variants.{Correct, Fails}
 use Rattle.shown.specs.Positions.{markOf}
@@ -70,39 +69,27 @@ module _ (p : Plant) (fair label next : List ℕ) (rule : Rule) (event : ℕ →
 
 -- ---- the log
 
--- an event is refused behind so many, and its line is at `offset`
-abbrev pub stoppedAt : Refusal → ℕ → ℕ → Judged
-stoppedAt r done offset = Stopped (record { refusal = refusedAt (r .kind) offset; event = done })
-
--- how the course of a log ended
-abbrev pub judgedWent : Outcome → Went → ℕ → Judged → Judged
-judgedWent Outcomes.Accepted w bytes end = end
-judgedWent (Outcomes.Refused r) w bytes end = stoppedAt r (w .done) (lineStart bytes (w .done))
-
 -- of the table as many parts are lent as it counts; with the verdict, and with the monitor behind the last event
-abbrev pub judgedWith : Opened → List ℕ → Verdict → Report → Judged
-judgedWith o log v r =
-    let width = widthOf (o .table .plant .props) in
-    reportJudged (o .table .plant) (fairIn (o .table)) (labelIn (o .table)) (nextIn (o .table)) (o .rule) (eventAt width log) (wholeLines width log) v r
+abbrev pub judgedWith : Table → Rule → List ℕ → Verdict → Report → Judged
+judgedWith t rule log v r =
+    let width = widthOf (t .plant .props) in
+    reportJudged (t .plant) (fairIn t) (labelIn t) (nextIn t) rule (eventAt width log) (wholeLines width log) v r
 
-abbrev pub judgedEnd : Opened → List ℕ → Monitor → Report → Judged
-judgedEnd o log last r =
-    let width = widthOf (o .table .plant .props) in
-    judgedAt (o .table .plant) (fairIn (o .table)) (labelIn (o .table)) (nextIn (o .table)) (o .rule) (eventAt width log) (wholeLines width log) last r
+abbrev pub judgedAfter : Table → Rule → List ℕ → Monitor → Report → Judged
+judgedAfter t rule log last r =
+    let width = widthOf (t .plant .props) in
+    judgedAt (t .plant) (fairIn t) (labelIn t) (nextIn t) rule (eventAt width log) (wholeLines width log) last r
 
-abbrev pub judgedFollowed : Opened → List ℕ → Report → Judged
-judgedFollowed o log r =
-    let went = courseFrom o log .went in
-    judgedWent (went .outcome) went (bytesIn (widthOf (o .table .plant .props)) log) (judgedEnd o log (went .monitor) r)
+-- unless the log was refused, or one of its events
+abbrev pub unlessStopped : LogAnswer → Judged → Judged
+unlessStopped (Logs.Watched n) j = j
+unlessStopped (Logs.Stopped s) j = Stopped s
+unlessStopped (Logs.Refused r) j = Refused r
 
--- behind the checks of the texts
-abbrev pub judgedIn : Outcome → Opened → List ℕ → Report → Judged
-judgedIn Outcomes.Accepted o log r = judgedFollowed o log r
-judgedIn (Outcomes.Refused x) o log r = Refused x
-
-abbrev pub judgedFrom : Opened → List ℕ → Report → Judged
-judgedFrom o log r = judgedIn (andThen (o .outcome) (logRead (widthOf (o .table .plant .props)) log .outcome)) o log r
+-- where a log ends
+abbrev pub judgedEnd : LogEnd → List ℕ → Report → Judged
+judgedEnd e log r = unlessStopped (e .answer) (judgedAfter (e .table) (e .rule) log (e .last) r)
 
 -- the texts of a table, a rule and a log, and a report on them
 unfoldable pub judgedOf : List ℕ → List ℕ → List ℕ → Report → Judged
-judgedOf table rule log r = judgedFrom (openedOf table rule) log r
+judgedOf table rule log r = judgedEnd (endOf table rule log) log r

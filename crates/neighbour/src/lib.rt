@@ -6,10 +6,9 @@ use advance::lamp;
 use answers::Outcome;
 use answers::Refusal;
 use answers::Verdict;
+use controller::LogAnswer;
 use controller::Stop;
-use opened::Opened;
-use opened::open_texts;
-use pairs::Pairs;
+use controller::to_end;
 use plant::Plant;
 use plant::Table;
 use sent::Report;
@@ -24,13 +23,11 @@ use sides::Monitor;
 use syntax::Rule;
 ghost use mathlib.Core.Path.{_≡_};
 ghost use Prim.Native.Nat.{_≤_};
-ghost use Rattle.answers.specs.declared.Outcome.the-variants.{Accepted};
 ghost use Rattle.text.specs.Number.{widthOf};
-ghost use Rattle.log.specs.Read.{logRead, eventAt, wholeLines};
+ghost use Rattle.log.specs.Read.{eventAt, wholeLines};
 ghost use Rattle.opened.specs.Lent.{Lent};
-ghost use Rattle.opened.specs.Fits.{Fits};
 ghost use Rattle.neighbour.specs.Report.{Sized, RunSized, reportOf};
-ghost use Rattle.neighbour.specs.Judged.{lookedAt, confirmedBy, decidedSecond, decidedOf, reportJudged, stoppedAt, judgedWith, judgedEnd, judgedIn, judgedOf};
+ghost use Rattle.neighbour.specs.Judged.{lookedAt, confirmedBy, decidedSecond, decidedOf, reportJudged, judgedWith, judgedAfter, judgedOf};
 
 // Which run is wrong, the one that keeps the rule or the one that breaks it, and the first rule that it fails.
 pub struct Fault {
@@ -76,90 +73,24 @@ pub fn judge_report(
     )
 }
 
-// With the two runs put together.
+// With the two runs put together: our own verdict is asked for behind the last event alone.
 fn judge_runs(table: &[u8], rule: &[u8], log: &[u8], report: Report) -> Judged
     requires { ⌜ Sized report ⌝ }
     ensures { λ r. ⌜ r ≡ judgedOf (now (table .entry)) (now (rule .entry)) (now (log .entry)) report ⌝ }
 {
-    let opened = open_texts(table, rule);
-    let outcome = opened.outcome;
-    match outcome {
-        Outcome::Refused(refusal) => Judged::Refused(refusal),
-        Outcome::Accepted => with_opened(opened, log, report),
+    let end = to_end(table, rule, log);
+    let answer = end.answer;
+    match answer {
+        LogAnswer::Refused(refusal) => Judged::Refused(refusal),
+        LogAnswer::Stopped(stop) => Judged::Stopped(stop),
+        LogAnswer::Watched(_) => at_end(end.table, end.rule, log, end.last, report),
     }
-}
-
-// The form of the log, behind a table and a rule that were accepted.
-fn with_opened(opened: Opened, log: &[u8], report: Report) -> Judged
-    requires { ⌜ Lent (opened .table) × Fits opened × Sized report ⌝ }
-    ensures { λ r. ⌜ r ≡ judgedIn (logRead (widthOf (opened .table .plant .props)) (now (log .entry)) .outcome) opened (now (log .entry)) report ⌝ }
-{
-    let table = opened.table;
-    let plant = table.plant;
-    let read = log::read_log(log, plant.props);
-    let outcome = read.outcome;
-    match outcome {
-        Outcome::Refused(refusal) => Judged::Refused(refusal),
-        Outcome::Accepted => follow_log(opened, log, report),
-    }
-}
-
-// Our own verdict, by the log's lines. No lamp but the last is asked for.
-fn follow_log(opened: Opened, log: &[u8], report: Report) -> Judged
-    requires { ⌜ Lent (opened .table) × Fits opened × Sized report ⌝ }
-    ensures { λ r. ⌜ r ≡ judgedIn Accepted opened (now (log .entry)) report ⌝ }
-{
-    let table: Table = opened.table;
-    let plant: Plant = table.plant;
-    let just = plant.just;
-    let states = plant.states;
-    let fair = table.fair;
-    let label = table.label;
-    let next = table.next;
-    let rule: Rule = opened.rule;
-    let live: Pairs = opened.live;
-    let monitor: Monitor = opened.monitor;
-    let mut verdicts = [0u8; 0];
-    let mut lefts = [0u8; 0];
-    let mut numbers = [0u64; 0];
-    let went = course::follow(
-        plant,
-        &fair[..just],
-        &label[..states],
-        &next[..states],
-        rule,
-        live,
-        monitor,
-        log,
-        &mut verdicts,
-        &mut lefts,
-        &mut numbers,
-    );
-    let outcome = went.outcome;
-    let done = went.done;
-    let last = went.monitor;
-    let offset = done * log::line_bytes(log, plant.props);
-    match outcome {
-        Outcome::Refused(refusal) => stopped(refusal, done, offset),
-        Outcome::Accepted => at_end(opened, log, last, report),
-    }
-}
-
-// An event is refused behind so many, and its line is at `offset`.
-fn stopped(refusal: Refusal, done: usize, offset: usize) -> Judged
-    ensures { λ r. ⌜ r ≡ stoppedAt refusal done offset ⌝ }
-{
-    let kind = refusal.kind;
-    Judged::Stopped(Stop {
-        refusal: Refusal::at(kind, offset),
-        event: done,
-    })
 }
 
 // Behind the last event: the claim and the lengths of the runs are checked, and then the report is judged.
-fn at_end(opened: Opened, log: &[u8], last: Monitor, report: Report) -> Judged
-    requires { ⌜ Lent (opened .table) × (opened .rule .len ≤ 32) × Sized report ⌝ }
-    ensures { λ r. ⌜ r ≡ judgedEnd opened (now (log .entry)) last report ⌝ }
+fn at_end(table: Table, rule: Rule, log: &[u8], last: Monitor, report: Report) -> Judged
+    requires { ⌜ Lent table × (rule .len ≤ 32) × Sized report ⌝ }
+    ensures { λ r. ⌜ r ≡ judgedAfter table rule (now (log .entry)) last report ⌝ }
 {
     let claim = report.claim;
     let keeping = report.keeping;
@@ -169,23 +100,21 @@ fn at_end(opened: Opened, log: &[u8], last: Monitor, report: Report) -> Judged
     let verdict = shown.verdict;
     match outcome {
         Outcome::Refused(refusal) => Judged::Refused(refusal),
-        Outcome::Accepted => with_verdict(opened, log, verdict, report),
+        Outcome::Accepted => with_verdict(table, rule, log, verdict, report),
     }
 }
 
 // Of the table, as many parts are lent as it counts.
-fn with_verdict(opened: Opened, log: &[u8], verdict: Verdict, report: Report) -> Judged
-    requires { ⌜ Lent (opened .table) × (opened .rule .len ≤ 32) × Sized report ⌝ }
-    ensures { λ r. ⌜ r ≡ judgedWith opened (now (log .entry)) verdict report ⌝ }
+fn with_verdict(table: Table, rule: Rule, log: &[u8], verdict: Verdict, report: Report) -> Judged
+    requires { ⌜ Lent table × (rule .len ≤ 32) × Sized report ⌝ }
+    ensures { λ r. ⌜ r ≡ judgedWith table rule (now (log .entry)) verdict report ⌝ }
 {
-    let table: Table = opened.table;
     let plant: Plant = table.plant;
     let just = plant.just;
     let states = plant.states;
     let fair = table.fair;
     let label = table.label;
     let next = table.next;
-    let rule: Rule = opened.rule;
     judge_both(
         plant,
         &fair[..just],

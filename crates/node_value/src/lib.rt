@@ -6,7 +6,7 @@ use syntax::sides_of;
 pub use words::wide;
 ghost use mathlib.Core.Path.{_≡_};
 ghost use Rattle.meaning.specs.Bit.{bit};
-ghost use Rattle.node_value.specs.Unfold.{valueOf, carryOf, guessOf, pushedOf, valueAt, carryAt};
+ghost use Rattle.node_value.specs.Unfold.{valueOf, guessOf, pushedOf, valueAt, carryAt};
 
 // Whether the label has the proposition p.
 fn has_prop(label: u64, p: u8) -> bool

@@ -1,5 +1,5 @@
 -- What was opened is fit to be followed: its table's parts can be lent, and its live set and its monitor are of its table and its rule.
-use Prim.Native.Nat.{ℕ}
+use Prim.Native.Nat.{ℕ, _≤_, zero-le}
 use native.Mathlib.Omega.{arith}
 use mathlib.Core.Path.{_≡_, refl, ap}
 use mathlib.Core.List.{List}
@@ -12,6 +12,7 @@ use Rattle.syntax.specs.declared.Rule.{Rule}
 use Rattle.syntax.proofs.Values.{full-value}
 use Rattle.rule_text.specs.declared.RuleRead.{RuleRead}
 use Rattle.rule_text.specs.Reading.{ruleRead}
+use Rattle.rule_text.specs.Paper.{Takes}
 use Rattle.rule.specs.Promises as rules
 use Rattle.live.specs.Prepare.{preparedOf}
 use Rattle.live.specs.Promises.{prepare-accepted}
@@ -61,12 +62,19 @@ rule-fits t rule full =
     fits-by (prepared .outcome) (made t rule (prepared .live) (openCall (t .plant) (fairIn t) (labelIn t) (nextIn t) rule (prepared .live) .monitor))
     (λ ok _. opened-fitting (t .plant) (fairIn t) (labelIn t) (nextIn t) rule (prepare-accepted (t .plant) (fairIn t) (labelIn t) (nextIn t) rule full .0 ok))
 
--- a rule that was read has all its nodes
-full-read : (t : Table) (text : List ℕ) → ruleRead (t .plant) (fairIn t) (labelIn t) (nextIn t) text .outcome ≡ Accepted → length (ruleRead (t .plant) (fairIn t) (labelIn t) (nextIn t) text .rule .nodes) ≡ 32
-full-read t text ok =
-    let read = ruleRead (t .plant) (fairIn t) (labelIn t) (nextIn t) text in
-    let takes = rules.accepted-exactly (t .plant) (fairIn t) (labelIn t) (nextIn t) text (read .rule) .0 (ap (λ (o : Outcome). record { outcome = o; rule = read .rule }) ok) in
-    rw (takes .is) (full-value (takes .formula) (takes .small))
+-- a rule that was read has all its nodes, and counts at most as many
+module _ (t : Table) (text : List ℕ) (ok : ruleRead (t .plant) (fairIn t) (labelIn t) (nextIn t) text .outcome ≡ Accepted) where
+  abbrev read : RuleRead
+  read = ruleRead (t .plant) (fairIn t) (labelIn t) (nextIn t) text
+
+  takes : Takes (t .plant) (fairIn t) (labelIn t) (nextIn t) text (read .rule)
+  takes = rules.accepted-exactly (t .plant) (fairIn t) (labelIn t) (nextIn t) text (read .rule) .0 (ap (λ (o : Outcome). record { outcome = o; rule = read .rule }) ok)
+
+  full-read : length (read .rule .nodes) ≡ 32
+  full-read = rw (takes .is) (full-value (takes .formula) (takes .small))
+
+  short-read : read .rule .len ≤ 32
+  short-read = rw (takes .is) (takes .small)
 
 pub opened-fits : (table rule : List ℕ) → openedOf table rule .outcome ≡ Accepted → Fits (openedOf table rule)
 unfolding openedOf partsOpened
@@ -75,3 +83,19 @@ opened-fits table rule =
     let read = ruleRead (t .plant) (fairIn t) (labelIn t) (nextIn t) rule in
     fits-by (tableRead table .outcome) (tableOpened t rule)
     (λ _. fits-by (read .outcome) (ruleOpened t (fairIn t) (labelIn t) (nextIn t) (read .rule)) (λ ok. rule-fits t (read .rule) (full-read t rule ok)))
+
+-- ---- the rule
+
+short-by : (o : Outcome) (x : Opened) → (o ≡ Accepted → x .rule .len ≤ 32) → orRefused o x .rule .len ≤ 32
+short-by Accepted x h = h refl
+short-by (Refused r) x h = zero-le
+
+-- it counts no more nodes than it has room for: beside a refusal none, and else those of a rule that was read
+pub opened-short : (table rule : List ℕ) → openedOf table rule .rule .len ≤ 32
+unfolding openedOf partsOpened ruleOpened
+opened-short table rule =
+    let t = tableRead table .table in
+    let read = ruleRead (t .plant) (fairIn t) (labelIn t) (nextIn t) rule in
+    let prepared = preparedOf (t .plant) (fairIn t) (labelIn t) (nextIn t) (read .rule) in
+    short-by (tableRead table .outcome) (tableOpened t rule) (λ _. short-by (read .outcome) (ruleOpened t (fairIn t) (labelIn t) (nextIn t) (read .rule)) (λ ok.
+    short-by (prepared .outcome) (made t (read .rule) (prepared .live) (openCall (t .plant) (fairIn t) (labelIn t) (nextIn t) (read .rule) (prepared .live) .monitor)) (λ _. short-read t rule ok)))

@@ -1,7 +1,7 @@
 -- What the table's check says: accepted exactly if the table is as `AcceptedTable` says (meaning/specs/Limits); refused by 1 exactly if a count or a length is wrong, by 2 exactly if
 -- these are right and some bit names a state or a proposition beyond the counts.
 use Prim.Native.Nat.{ℕ, zero, suc, _+_, _-_, _/_, _^_, _≤_, _<_}
-use mathlib.Core.Path.{_≡_, refl, sym, ap, _∙_}
+use mathlib.Core.Path.{_≡_, refl, sym, _∙_}
 use mathlib.Core.Logic.{_↔_, _⊎_, inl, inr, ⊎-elim}
 use mathlib.Core.List.{List}
 use mathlib.Core.Bool.{Bool, true, false, So, false≢true}

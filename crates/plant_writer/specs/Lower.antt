@@ -1,5 +1,5 @@
 -- A text with each capital digit made small, byte by byte. Of a table's text this is what `smallOf` (text/specs/Written) says by slots.
-use Prim.Native.Nat.{ℕ, zero, suc, _+_, _-_, _/_, _%_, _≤_, _<_}
+use Prim.Native.Nat.{ℕ, zero, suc, _+_, _-_, _/_, _%_, _<_}
 use mathlib.Core.Path.{_≡_, refl, ap, ap₂, _∙_}
 use mathlib.Core.Bool.{Bool, true, false, So, _&&_, cond}
 use mathlib.Core.List.{List, [], _∷_, _++_, map}
@@ -10,7 +10,7 @@ use lib.ListN.{length, getD}
 use Rattle.meaning.specs.Run.{Plant}
 use Rattle.words.specs.Truth.{and-says}
 use Rattle.text.specs.Slot.{Slot, exactly, digit, word, admits, written, digitValue, digitByte}
-use Rattle.text.specs.Number.{widthOf, hexSlots, leadOf, nextOf, lastOf, countSlots}
+use Rattle.text.specs.Number.{widthOf, hexSlots, nextOf, lastOf, countSlots}
 use Rattle.text.specs.Cases.{if-below}
 use Rattle.text.specs.Written.{textOf}
 use Rattle.text.specs.Place.{Fills, first-fills, rest-fills}

@@ -1,6 +1,5 @@
 -- The answer of write_table on paper: how many bytes were written, or the refusal.
-use Prim.Native.Nat.{ℕ}
-use mathlib.Core.List.{List, [], _∷_}
+use mathlib.Core.List.{[], _∷_}
 use Rattle.answers.specs.Paper.{Paper, accepted, refusal}
 use Rattle.plant_writer.specs.declared.Wrote.{Wrote}
 use Rattle.plant_writer.specs.declared.Wrote.the-variants.{Text, Refused}

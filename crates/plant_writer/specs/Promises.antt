@@ -20,7 +20,6 @@ use Rattle.answers.specs.Chain.{unless, chain-accepts, unless-accepts}
 use Rattle.text.specs.Place.{fills-small}
 use Rattle.plant.specs.declared.Plant.{Plant}
 use Rattle.plant.specs.declared.Table.{Table}
-use Rattle.plant.specs.declared.TableRead.{TableRead}
 use Rattle.plant.specs.Table.{plantOf, tableOutcome}
 use Rattle.plant.specs.Check.{accepted-exactly}
 use Rattle.plant.specs.Read.{tableOf, tableRead, take-padded}

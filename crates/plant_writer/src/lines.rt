@@ -5,7 +5,7 @@ use writing::put_text;
 ghost use mathlib.Core.Path.{_≡_};
 ghost use mathlib.Core.List.{_++_};
 ghost use Prim.Native.Nat.{_+_, _≤_, _<_};
-ghost use lib.ListN.{length, getD};
+ghost use lib.ListN.{length};
 ghost use Rattle.writing.specs.Put.{Put};
 ghost use Rattle.text.specs.Slot.{word, digitByte};
 ghost use Rattle.text.specs.Number.{hexSlots, countSlots};

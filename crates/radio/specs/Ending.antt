@@ -1,10 +1,10 @@
 -- The end of a line as the code does it; and by what a rule says, which was worked out, a scrap is heard as by the calls.
-use Prim.Native.Nat.{ℕ, _+_, _≤_}
+use Prim.Native.Nat.{ℕ, _+_}
 use native.Mathlib.Omega.{arith}
 use mathlib.Core.Path.{_≡_, refl, sym, ap, ap₂, subst, _∙_}
 use mathlib.Core.Bool.{Bool, true, false, cond}
-use mathlib.Core.List.{List, [], _∷_, _++_, foldl}
-use lib.Dec.{ltb, leb}
+use mathlib.Core.List.{List, [], _∷_, _++_}
+use lib.Dec.{ltb}
 use lib.ListN.{length, take, replicate}
 use Rattle.pairs.specs.declared.Pairs.{Pairs}
 use Rattle.model.specs.Sets.{PairSet}
@@ -38,7 +38,7 @@ use Rattle.radio.specs.declared.Lit.the-variants.{Dark, Verdict}
 use Rattle.radio.specs.declared.Radio.{Radio}
 use Rattle.radio.specs.declared.Went.{Went}
 use Rattle.radio.specs.declared.ends.Turned.{Turned}
-use Rattle.radio.specs.Radio.{Ear, Heard, formOf, begins, stopped, kept, answered, ended, lengthened, byteHeard, hear, hearAll}
+use Rattle.radio.specs.Radio.{Ear, Heard, formOf, begins, stopped, kept, answered, byteHeard, hear, hearAll}
 use Rattle.radio.specs.Kept.{padded, partOf, earOf, radioOf, heardBy, Fit, stoppedRadio, waysBy, turnBy, answeredTurn, endedTurn, Listened}
 use Rattle.radio.specs.Laws.{padded-long, padded-back}
 use Rattle.radio.specs.Turning.{part-long}

@@ -1,7 +1,7 @@
 -- The radio as code keeps it, and what the code says of a piece.
 use Prim.Native.Nat.{ℕ, _+_, _-_, _^_, _≤_, _<_}
 use mathlib.Core.Path.{_≡_}
-use mathlib.Core.Bool.{Bool, true, false, cond, _&&_}
+use mathlib.Core.Bool.{Bool, false, cond, _&&_}
 use mathlib.Core.List.{List, [], _∷_, _++_}
 use lib.Dec.{ltb, leb}
 use lib.ListN.{length, take, getD, set, replicate}
@@ -27,7 +27,7 @@ use Rattle.radio.specs.declared.Radio.{Radio}
 use Rattle.radio.specs.declared.piece.Pieced.{Pieced}
 use Rattle.radio.specs.declared.ends.Turned.{Turned}
 use Rattle.radio.specs.declared.Went.{Went}
-use Rattle.radio.specs.Radio.{Ear, Heard, formOf, goodOf, begins, hearAll}
+use Rattle.radio.specs.Radio.{Ear, Heard, formOf, goodOf, begins}
 use Rattle.radio.specs.Pieces.{Kept}
 
 -- ---- the bytes kept

@@ -1,29 +1,26 @@
 -- The laws of the bytes kept and of a piece, as the code goes.
-use Prim.Native.Nat.{ℕ, suc, _+_, _-_, _^_, _≤_, _<_, zero-le}
+use Prim.Native.Nat.{ℕ, _+_, _-_, _≤_, _<_, zero-le}
 use native.Mathlib.Omega.{arith}
 use native.Mathlib.Nat.{le-antisymm, zero-add}
 use mathlib.Core.Path.{_≡_, refl, sym, ap, ap₂, subst, _∙_}
 use mathlib.Core.Bool.{Bool, true, false, cond, false≢true}
 use mathlib.Core.Logic.{⊎-elim}
-use mathlib.Core.List.{List, [], _∷_, _++_, append-nil}
+use mathlib.Core.List.{List, [], _++_, append-nil}
 use borrow.Author.Tests.{lt-ltb, le-ltb, le-leb, ltb-true, leb-true}
 use lib.Dec.{ltb, leb, eqb}
-use lib.ListN.{length, take, drop, getD, set, replicate, length-append, length-take, length-replicate, getD-replicate, List·getD-append, List·getD-eq-default}
-use lib.Seq.{ext-getD, getD-take, getD-append-add, take-all}
+use lib.ListN.{length, take, getD, replicate, length-append, length-take, length-replicate, List·getD-append, List·getD-eq-default}
+use lib.Seq.{ext-getD, getD-take, getD-append-add}
 use Rattle.words.specs.Truth.{and-says}
 use Rattle.words.specs.Lists.{length-list, list-at, list-of, zeros}
-use Rattle.answers.specs.declared.Kind.the-variants.{LogText}
 use Rattle.answers.specs.declared.Refusal.{Refusal}
-use Rattle.answers.specs.declared.Outcome.{Outcome}
 use Rattle.answers.specs.declared.Outcome.the-variants.{Accepted, Refused}
 use Rattle.answers.specs.Chain.{isAccepted, placeOf}
-use Rattle.answers.specs.Paper.{refusedAt}
 use Rattle.text.specs.Cases.{below-or-beyond}
 use Rattle.text.specs.Slot.{matched}
 use Rattle.text.specs.Matched.{matched-text}
 use Rattle.text.specs.Many.{offset, slotsBelow}
 use Rattle.text.specs.Lines.{begun, lineStart, linesSlots, lineAt, begun-least, begun-more}
-use Rattle.text.specs.LinesRead.{linesRead, linesGood}
+use Rattle.text.specs.LinesRead.{linesRead}
 use Rattle.text.specs.Promises.{fitOf}
 use Rattle.log.specs.declared.LogRead.{LogRead}
 use Rattle.log.specs.Line.{line, lineBytes, line-fixed}
@@ -32,7 +29,7 @@ use Rattle.radio.specs.declared.Form.{Form}
 use Rattle.radio.specs.declared.Radio.{Radio}
 use Rattle.radio.specs.Radio.{agrees, goodOf}
 use Rattle.radio.specs.Pieces.{first-same, Kept}
-use Rattle.radio.specs.Kept.{padded, partOf, earOf, radioOf, keptOk, lesserOf}
+use Rattle.radio.specs.Kept.{padded, partOf, earOf, radioOf, keptOk}
 
 -- ---- bytes behind bytes
 

@@ -1,14 +1,14 @@
 -- Bytes of one line heard at once: a piece of a line is judged whole, and that is what its bytes give one by one.
-use Prim.Native.Nat.{ℕ, suc, _+_, _≤_, _<_}
+use Prim.Native.Nat.{ℕ, _+_, _≤_, _<_}
 use native.Mathlib.Omega.{arith}
 use native.Mathlib.Nat.{le-antisymm}
 use mathlib.Core.Path.{_≡_, refl, sym, ap, subst, _∙_}
-use mathlib.Core.Bool.{Bool, true, false, So, cond, false≢true}
+use mathlib.Core.Bool.{Bool, true, false, cond, false≢true}
 use mathlib.Core.Logic.{_↔_, ⊎-elim}
-use mathlib.Core.List.{List, [], _∷_, _++_, append-assoc, append-nil, foldl}
-use borrow.Author.Tests.{leb-true, le-leb, lt-leb, lt-ltb, le-ltb, ltb-true}
+use mathlib.Core.List.{List, [], _∷_, _++_, append-assoc, append-nil}
+use borrow.Author.Tests.{leb-true, le-leb, lt-ltb, le-ltb}
 use lib.Dec.{ltb, leb}
-use lib.ListN.{length, take, getD, length-append}
+use lib.ListN.{length, take, length-append}
 use lib.Seq.{take-all, take-append-seam}
 use Rattle.answers.specs.declared.Kind.the-variants.{LogText}
 use Rattle.answers.specs.declared.Refusal.{Refusal}
@@ -28,7 +28,7 @@ use Rattle.log.specs.Read.{isNumbered, bytesIn, eventAt}
 use Rattle.sides.specs.declared.Monitor.{Monitor}
 use Rattle.monitor.specs.declared.Watched.{Watched}
 use Rattle.radio.specs.declared.Form.{Form}
-use Rattle.radio.specs.Radio.{Ear, Heard, agrees, goodOf, begins, stopped, kept, answered, ended, lengthened, byteHeard, hear, hearAll}
+use Rattle.radio.specs.Radio.{Heard, agrees, goodOf, begins, stopped, kept, answered, ended, lengthened, byteHeard, hear, hearAll}
 
 -- ---- the first byte
 

@@ -1,16 +1,15 @@
 -- A piece as the code takes it is what its bytes give one by one; and what the loop over a scrap has done behind some pieces.
-use Prim.Native.Nat.{ℕ, suc, _+_, _-_, _^_, _≤_, _<_, zero-le}
+use Prim.Native.Nat.{ℕ, _+_, _-_, _^_, _≤_, _<_, zero-le}
 use native.Mathlib.Omega.{arith}
 use mathlib.Core.Path.{_≡_, refl, sym, ap, ap₂, subst, _∙_}
 use mathlib.Core.Bool.{Bool, true, false, cond, false≢true}
 use mathlib.Core.Logic.{⊎-elim}
-use mathlib.Core.List.{List, [], _∷_, _++_, append-nil, foldl, foldl-append}
-use borrow.Author.Tests.{lt-ltb, le-ltb, le-leb, lt-leb, ltb-true, leb-true}
+use mathlib.Core.List.{List, [], _∷_, _++_, append-nil, foldl-append}
+use borrow.Author.Tests.{lt-ltb, le-ltb, le-leb, leb-true}
 use lib.Dec.{ltb, leb, eqb}
-use lib.ListN.{length, take, drop, getD, replicate, length-append, length-take, length-drop, length-replicate}
+use lib.ListN.{length, take, drop, replicate, length-append, length-take, length-drop, length-replicate}
 use lib.Seq.{getD-take, take-all, take-add}
 use Rattle.answers.specs.declared.Kind.the-variants.{LogText}
-use Rattle.answers.specs.declared.Refusal.{Refusal}
 use Rattle.answers.specs.declared.Answer.{Answer}
 use Rattle.answers.specs.declared.Answer.the-variants as Answers
 use Rattle.answers.specs.declared.Outcome.{Outcome}
@@ -27,11 +26,10 @@ use Rattle.radio.specs.declared.Form.{Form}
 use Rattle.radio.specs.declared.Lit.{Lit}
 use Rattle.radio.specs.declared.Lit.the-variants.{Dark, Verdict}
 use Rattle.radio.specs.declared.Radio.{Radio}
-use Rattle.radio.specs.declared.Went.{Went}
 use Rattle.radio.specs.declared.piece.Pieced.{Pieced}
 use Rattle.radio.specs.declared.ends.Turned.{Turned}
-use Rattle.radio.specs.Radio.{Heard, goodOf, stopped, kept, answered, ended, lengthened, hear, hearAll}
-use Rattle.radio.specs.Pieces.{first-same, good-within, Kept, pieced, hears-no-more, pieces}
+use Rattle.radio.specs.Radio.{Heard, goodOf, stopped, kept, ended, lengthened, hear, hearAll}
+use Rattle.radio.specs.Pieces.{first-same, Kept, pieced, hears-no-more, pieces}
 use Rattle.radio.specs.Kept.{padded, partOf, earOf, radioOf, heardBy, Fit, stoppedRadio, lesserOf, joinedPiece, tookOf, openPiece, pieceOf, litOf, answeredTurn, endedTurn, turnedOf, notedAt, Listened}
 use Rattle.radio.specs.Laws.{padded-long, padded-back, padded-none}
 

@@ -18,7 +18,7 @@ use ways::Ways;
 ghost use mathlib.Core.Path.{_≡_};
 ghost use mathlib.Core.List.{[]};
 ghost use Prim.Native.Nat.{_+_, _^_, _≤_, _<_};
-ghost use lib.ListN.{length, set};
+ghost use lib.ListN.{length};
 ghost use Rattle.text.specs.Number.{widthOf};
 ghost use Rattle.course.specs.Course.{turn, Fitting};
 ghost use Rattle.monitor.specs.Calls.{stepCall};
@@ -116,15 +116,6 @@ pub fn begins_line(radio: Radio, props: usize) -> bool
     false
 }
 
-// A byte is stored where there is room for it.
-fn store(bytes: &mut [u8], at: usize, byte: u8)
-    ensures { λ _. ⌜ now (bytes .exit) ≡ set (now (bytes .entry)) at byte ⌝ }
-{
-    if at < bytes.len() {
-        bytes[at] = byte;
-    }
-}
-
 // A verdict is stored behind the others and counted.
 fn note(verdicts: &mut [u8], done: usize, lit: Lit) -> usize
     requires { ⌜ done < 2 ^ 63 ⌝ }
@@ -134,7 +125,7 @@ fn note(verdicts: &mut [u8], done: usize, lit: Lit) -> usize
     match lit {
         Lit::Dark => done,
         Lit::Verdict(verdict) => {
-            store(verdicts, done, verdict);
+            course::store(verdicts, done, verdict);
             done + 1
         }
     }

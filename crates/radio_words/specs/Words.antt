@@ -67,16 +67,9 @@ unfoldable pub radioWord : Radio → ℕ → ℕ
 radioWord r k =
     cond (ltb k 5) (packedAt (r .part) k) (cond (eqb k 5) (r .len) (cond (eqb k 6) (r .start) (cond (eqb k 7) (formCode (r .form)) (cond (eqb k 8) (standingCode (r .standing)) (standingPlace (r .standing))))))
 
+-- the words of the radio, and all others as they were
 unfoldable pub changedWord : List ℕ → Radio → ℕ → ℕ
 changedWord w r p = cond (ltb p 363) (getD w p 0) (cond (ltb p 373) (radioWord r (p - 363)) (getD w p 0))
 
--- all ten, and a word of a box with these in it
-unfoldable pub radioWords : Radio → List ℕ
-radioWords r = listBelow 10 (radioWord r)
-
-unfoldable pub splicedWord : List ℕ → List ℕ → ℕ → ℕ
-splicedWord w ten p = cond (ltb p 363) (getD w p 0) (cond (ltb p 373) (getD ten (p - 363) 0) (getD w p 0))
-
--- the words of the radio, and all others as they were
 unfoldable pub withRadio : List ℕ → Radio → List ℕ
 withRadio w r = listBelow 384 (changedWord w r)

@@ -8,7 +8,7 @@ use radio::Radio;
 use sides::Monitor;
 ghost use mathlib.Core.Path.{_≡_};
 ghost use Prim.Native.Nat.{_+_, _<_};
-ghost use Rattle.radio_words.specs.Words.{byteIn, partIn, formIn, standingIn, radioIn, canStand, packedAt, formCode, standingCode, standingPlace, radioWord, radioWords, splicedWord, withRadio};
+ghost use Rattle.radio_words.specs.Words.{byteIn, partIn, formIn, standingIn, radioIn, canStand, packedAt, formCode, standingCode, standingPlace, radioWord, withRadio};
 
 // A byte of the part. The words are lent: handed over by value they would be copied for each byte.
 fn byte_in(words: &[u64; 384], at: usize) -> u8
@@ -85,12 +85,6 @@ pub fn can_stand(words: [u64; 384]) -> bool
     (words[370] < 3) & ((code == 10) | ((code == 12) | (code == 16)))
 }
 
-fn wide(byte: u8) -> u64
-    ensures { λ r. ⌜ (r ≡ byte) × (r < 256) ⌝ }
-{
-    byte as u64
-}
-
 // Eight bytes of the part in a word, the first one lowest.
 fn packed(part: [u8; 40], word: usize) -> u64
     requires { ⌜ word < 5 ⌝ }
@@ -98,7 +92,7 @@ fn packed(part: [u8; 40], word: usize) -> u64
 {
     let mut all: u64 = 0;
     for i in 0..8 {
-        all = (all % 72057594037927936) * 256 + wide(part[8 * word + (7 - i)]);
+        all = (all % 72057594037927936) * 256 + words::of_byte(part[8 * word + (7 - i)]);
     }
     all
 }
@@ -120,7 +114,7 @@ fn standing_code(standing: Outcome) -> u64
         Outcome::Accepted => 0,
         Outcome::Refused(refusal) => {
             let kind = refusal.kind;
-            wide(kind.number())
+            words::of_byte(kind.number())
         }
     }
 }
@@ -159,39 +153,13 @@ fn radio_word(radio: Radio, at: usize) -> u64
     standing_place(standing)
 }
 
-// All ten.
-fn words_of(radio: Radio) -> [u64; 10]
-    ensures { λ r. ⌜ r ≡ radioWords radio ⌝ }
-{
-    let mut words = [0u64; 10];
-    for at in 0..10 {
-        words[at] = radio_word(radio, at);
-    }
-    words
-}
-
-// A word of a box with another radio.
-fn changed_word<'a>(words: &'a [u64; 384], ten: &'a [u64; 10], at: usize) -> u64
-    requires { ⌜ at < 384 ⌝ }
-    ensures { λ r. ⌜ r ≡ splicedWord (now (words .entry)) (now (ten .entry)) at ⌝ }
-{
-    if at < 363 {
-        return words[at];
-    }
-    if at < 373 {
-        return ten[at - 363];
-    }
-    words[at]
-}
-
-// The same box with another radio; its monitor is not among these words. The ten are made once, and both are lent: handed over by value they would be copied 384 times.
+// The same box with another radio; its monitor is not among these words.
 pub fn with_radio(words: [u64; 384], radio: Radio) -> [u64; 384]
     ensures { λ r. ⌜ r ≡ withRadio words radio ⌝ }
 {
-    let ten = words_of(radio);
-    let mut changed = [0u64; 384];
-    for at in 0..384 {
-        changed[at] = changed_word(&words, &ten, at);
+    let mut changed = words;
+    for at in 0..10 {
+        changed[363 + at] = radio_word(radio, at);
     }
     changed
 }

@@ -2,8 +2,8 @@
 use crate::Line;
 use crate::pieces::put_decimal;
 use crate::pieces::put_kind;
+use words::of_byte;
 use writing::put_text;
-ghost use mathlib.Core.Path.{_≡_};
 ghost use Prim.Native.Nat.{_+_, _*_, _≤_};
 ghost use lib.ListN.{length, take, drop};
 ghost use Rattle.io.specs.Counts.{Counts};
@@ -15,12 +15,6 @@ impl Line {
     pub const RUN: usize = 196640;
 }
 
-fn wide(x: u8) -> u64
-    ensures { λ r. ⌜ r ≡ x ⌝ }
-{
-    x as u64
-}
-
 // A state, behind a comma unless it is the first.
 fn put_state(buffer: &mut [u8], at: usize, first: bool, state: u8) -> usize
     requires { ⌜ at + 21 ≤ length (now buffer) ⌝ }
@@ -28,10 +22,10 @@ fn put_state(buffer: &mut [u8], at: usize, first: bool, state: u8) -> usize
     ensures bound { λ r. ⌜ r ≤ at + 4 ⌝ }
 {
     if first {
-        return put_decimal(buffer, at, wide(state));
+        return put_decimal(buffer, at, of_byte(state));
     }
     let behind = put_text(buffer, at, b",");
-    put_decimal(buffer, behind, wide(state))
+    put_decimal(buffer, behind, of_byte(state))
 }
 
 fn put_states(buffer: &mut [u8], at: usize, states: &[u8]) -> usize

@@ -2,8 +2,8 @@
 // A cursor goes over the text once and tells where each list of states stands; the states of a list are read from there.
 pub mod states;
 
+use text::byte_at;
 ghost use mathlib.Core.Path.{_≡_};
-ghost use lib.ListN.{getD};
 ghost use Rattle.report_text.specs.Form.{
   byteTaken,
   wordFrom,
@@ -74,13 +74,6 @@ pub struct ReportParts {
 pub enum ReportRead {
     Report(ReportParts),
     Bad(usize),
-}
-
-// The byte at a place, and 0 beyond the end.
-fn byte_at(text: &[u8], at: usize) -> u8
-    ensures { λ r. ⌜ r ≡ getD (now (text .entry)) at 0 ⌝ }
-{
-    if at < text.len() { text[at] } else { 0 }
 }
 
 // One known byte.

@@ -1,5 +1,6 @@
 // The states of a list: decimal numbers with commas between them. A number that no byte holds is taken for 255, which is no state of a table either.
 use crate::Part;
+use words::index_of;
 use writing::put_byte;
 ghost use mathlib.Core.Path.{_≡_};
 ghost use mathlib.Core.Bool.{_&&_, cond};
@@ -21,17 +22,11 @@ fn digit_of(b: u8) -> u8
     b - 48
 }
 
-fn wide(b: u8) -> usize
-    ensures { λ r. ⌜ r ≡ b ⌝ }
-{
-    b as usize
-}
-
 // A number with one digit more, and 255 where it is greater.
 fn with_digit(n: u8, b: u8) -> u8
     ensures { λ r. ⌜ r ≡ withDigit n b ⌝ }
 {
-    let more = wide(n) * 10 + wide(digit_of(b));
+    let more = index_of(n) * 10 + index_of(digit_of(b));
     if 255 < more {
         return 255;
     }

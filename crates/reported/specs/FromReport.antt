@@ -1,11 +1,9 @@
 -- From texts to the answer: the texts are opened, the course of the log shows the last verdict, and the runs are judged. Here are the claims of Every and Reports proved.
 use Prim.Native.Nat.{ℕ, _<_}
-use native.Mathlib.Omega.{arith}
 use mathlib.Core.Path.{_≡_, refl, sym, ap, ap₂, subst, _∙_}
 use mathlib.Core.Logic.{inl}
 use mathlib.Core.List.{List}
-use lib.ListN.{length, getD, take}
-use lib.Seq.{take-length}
+use lib.ListN.{length, getD}
 use Rattle.meaning.specs.Formula.{Formula}
 use Rattle.meaning.specs.Run as run
 use Rattle.meaning.specs.Event.{since}
@@ -13,7 +11,6 @@ use Rattle.meaning.specs.Limits.{AcceptedTable}
 use Rattle.text.specs.Number.{widthOf}
 use Rattle.text.specs.Lines.{lineStart}
 use Rattle.text.specs.Written.{smallOf}
-use Rattle.answers.specs.declared.Lamp.{Lamp}
 use Rattle.answers.specs.declared.Kind.{Kind}
 use Rattle.answers.specs.declared.Kind.the-variants.{IllegalEvent, Number as NumberKind}
 use Rattle.answers.specs.declared.Refusal.{Refusal}
@@ -27,32 +24,28 @@ use Rattle.rule_text.specs.declared.RuleRead.{RuleRead}
 use Rattle.rule_text.specs.Reading.{ruleRead}
 use Rattle.rule.specs.Promises as rules
 use Rattle.log.specs.declared.Event.{Event}
-use Rattle.log.specs.declared.LogRead.{LogRead}
 use Rattle.log.specs.Log.{nothing}
 use Rattle.log.specs.Read.{bytesIn, eventAt, wholeLines}
 use Rattle.log.specs.Promises as logs
-use Rattle.checks.specs.Input.{formula-is}
 use Rattle.sides.specs.declared.Monitor.{Monitor}
-use Rattle.sides.specs.Held.{modelOf, lampIn}
-use Rattle.monitor.specs.declared.Watched.{Watched}
 use Rattle.watching.specs.Filled.{filled}
-use Rattle.watching.specs.Watching as watching
-use Rattle.watching.specs.Watching.{after-model}
 use Rattle.course.specs.Course.{Course}
 use Rattle.opened.specs.declared.Opened.{Opened}
 use Rattle.opened.specs.Opened.{notOpened, partsOpened, openedOf}
+use Rattle.controller.specs.declared.LogEnd.{LogEnd}
+use Rattle.controller.specs.Whole.{heardBy, endFrom, endOf}
 use Rattle.transcript.specs.Said.{bytes, bytesOf}
-use Rattle.front_door.specs.FrontDoor.{SaysTable, SaysLog, TakenAt, RightAfter}
+use Rattle.front_door.specs.FrontDoor.{SaysTable, SaysLog, TakenAt}
 use Rattle.front_door.specs.WholeLog.{SaysBare}
-use Rattle.front_door.specs.FromTexts.{value, passes-check, Answer, refuses, gives as gives-rule, answer}
-use Rattle.front_door.specs.FromLog.{input, start, behind-rule, course, course-is, log-read, taken, all-gone}
-use Rattle.front_door.specs.Lamps.{Gone, all-taken, stopped, Stop, illegal, stray, all-taken-to, behind-taken, watched}
-use Rattle.front_door.specs.OneOutput.{lit-right}
+use Rattle.front_door.specs.FromTexts.{passes-check, Answer, refuses, gives as gives-rule, answer}
+use Rattle.front_door.specs.FromLog.{input, start, course, taken, all-gone}
+use Rattle.front_door.specs.AtEnd.{end-read, end-is, last, verdict-right}
+use Rattle.front_door.specs.Lamps.{Gone, all-taken, stopped, Stop, illegal, stray}
 use Rattle.neighbour.specs.declared.sent.Report.{Report}
 use Rattle.neighbour.specs.declared.Judged.{Judged}
 use Rattle.neighbour.specs.declared.Judged.the-variants.{Stopped, Refused}
 use Rattle.neighbour.specs.Report.{reportOf}
-use Rattle.neighbour.specs.Judged.{judgedAt, judgedWent, judgedEnd, judgedIn, judgedFrom, judgedOf}
+use Rattle.neighbour.specs.Judged.{judgedAt, judgedAfter, unlessStopped, judgedEnd, judgedOf}
 use Rattle.reported.specs.Every.{stoppedBy, Deserves, Ends, at-end, at-event, at-number, OfLog, log-said, log-refused, OfRule, rule-said, rule-refused, OfTable, table-said, table-refused, bit-beyond, EveryReport}
 use Rattle.reported.specs.Faults.{deserved}
 use Rattle.reported.specs.Reports.{ReportsRight}
@@ -81,11 +74,11 @@ module _ (t : run.Plant) (table : AcceptedTable t) (text : List ℕ) (says : Say
 
   -- how a course ends
   abbrev ending : Course → Judged
-  ending c = judgedWent (c .went .outcome) (c .went) (bytesIn w log) (ended (eventAt w log) (wholeLines w log) (c .went .monitor))
+  ending c = unlessStopped (heardBy (bytesIn w log) c .answer) (ended (eventAt w log) (wholeLines w log) (c .went .monitor))
 
   -- of the table as many parts are lent as it has
-  parts-are : (last : Monitor) → judgedEnd o log last report ≡ ended (eventAt w log) (wholeLines w log) last
-  parts-are last =
+  parts-are : (m : Monitor) → judgedAfter (o .table) (o .rule) log m report ≡ ended (eventAt w log) (wholeLines w log) m
+  parts-are m =
       rw (
         take-padded 4 (length (t .fair)) (t .fair) refl (table .few-fair),
         take-padded 64 (t .states) (t .label) (table .labels) (table .few-states),
@@ -97,36 +90,24 @@ module _ (t : run.Plant) (table : AcceptedTable t) (text : List ℕ) (says : Say
   unfolding judgedOf
   judged-is =
       let c = course t table text says rule f rule-says log in
-      ap (λ (x : Opened). judgedFrom x log report) (behind-rule t table text says rule f rule-says)
-      ∙ ap (λ (r : LogRead). judgedIn (r .outcome) o log report) (log-read t table text says rule f rule-says log es log-says)
-      ∙ ap (λ (x : Course). judgedWent (x .went .outcome) (x .went) (bytesIn w log) (judgedEnd o log (x .went .monitor) report)) (course-is t table text says rule f rule-says log)
-      ∙ ap (λ (j : Judged). judgedWent (c .went .outcome) (c .went) (bytesIn w log) j) (parts-are (c .went .monitor))
+      ap (λ (e : LogEnd). judgedEnd e log report) (end-is t table text says rule f rule-says log es log-says)
+      ∙ ap (unlessStopped (heardBy (bytesIn w log) c .answer)) (parts-are (c .went .monitor))
 
   -- the lines of the text are the events
-  same : (last : Monitor) → ended (eventAt w log) (wholeLines w log) last ≡ ended event n last
-  same last =
+  same : (m : Monitor) → ended (eventAt w log) (wholeLines w log) m ≡ ended event n m
+  same m =
       let lines = taken t table text says rule f rule-says log es log-says in
       let events : eventAt w log ≡ event = λ i k. lines .events k i in
-      ap₂ (λ (e : ℕ → Event) (k : ℕ). ended e k last) events (lines .many)
+      ap₂ (λ (e : ℕ → Event) (k : ℕ). ended e k m) events (lines .many)
 
-  -- the monitor behind all events, and its lamp
-  abbrev last : Monitor
-  last = watched (countsIn t) (t .fair) (t .label) (t .next) (ruleOf f) (input t table text says rule f rule-says) (take n es) .monitor
+  -- the monitor behind all events
+  abbrev m : Monitor
+  m = last t table text says rule f rule-says es
 
-  moved : {g h : Formula} {l : Lamp} → g ≡ h → RightAfter t g es l → RightAfter t h es l
-  moved {l = l} e right = subst (λ (x : Formula). RightAfter t x es l) e right
-
-  lamp-right : ((k : ℕ) → k < length es → TakenAt t es k) → RightAfter t f es (lampIn (modelOf last))
-  lamp-right all =
-      let given = input t table text says rule f rule-says in
-      let accepted = subst (watching.AllTaken (countsIn t) (t .fair) (t .label) (t .next) (ruleOf f)) (take-length es) (all-taken-to (countsIn t) (t .fair) (t .label) (t .next) (ruleOf f) given es n all (omega arith)) in
-      let shown = ap (watching.after (countsIn t) (t .fair) (t .label) (t .next) (ruleOf f)) (take-length es) ∙ after-model (countsIn t) (t .fair) (t .label) (t .next) (ruleOf f) given es accepted in
-      subst (λ (x : Watched). RightAfter t f es (lampIn (modelOf (x .monitor)))) (sym shown) (moved (formula-is (value t table (rule-says .says))) (behind-taken (countsIn t) (t .fair) (t .label) (t .next) (ruleOf f) given es accepted))
-
-  judges : ((k : ℕ) → k < length es → TakenAt t es k) → Deserves claim keep-stem keep-loop break-stem break-loop t f (since (filled es)) (ended event n last)
+  judges : ((k : ℕ) → k < length es → TakenAt t es k) → Deserves claim keep-stem keep-loop break-stem break-loop t f (since (filled es)) (ended event n m)
   judges all =
-      deserved (countsIn t) (t .fair) (t .label) (t .next) (ruleOf f) f refl (rule-says .says .small) w es event (λ k. refl) (log-says .writable) (λ k l. all k l .1) last
-      (lit-right t f (lampIn (modelOf last)) (lamp-right all)) keep-stem keep-loop break-stem break-loop claim
+      deserved (countsIn t) (t .fair) (t .label) (t .next) (ruleOf f) f refl (rule-says .says .small) w es event (λ k. refl) (log-says .writable) (λ k l. all k l .1) m
+      (verdict-right t table text says rule f rule-says es all) keep-stem keep-loop break-stem break-loop claim
 
   -- an event is refused at the offset of its line
   abbrev halted : Refusal → ℕ → Judged
@@ -144,7 +125,7 @@ module _ (t : run.Plant) (table : AcceptedTable t) (text : List ℕ) (says : Say
   ends : (c : Course) → Gone (countsIn t) (t .fair) (t .label) (t .next) (ruleOf f) (input t table text says rule f rule-says) es n c
       → Ends claim keep-stem keep-loop break-stem break-loop t f es (ending c)
   ends c (all-taken lamps many named as-many before right numbers is) =
-      at-end before (rw is (subst (Deserves claim keep-stem keep-loop break-stem break-loop t f (since (filled es))) (sym (same last)) (judges before)))
+      at-end before (rw is (subst (Deserves claim keep-stem keep-loop break-stem break-loop t f (since (filled es))) (sym (same m)) (judges before)))
   ends c (stopped k low lamps many named as-many before r why right numbers m is) = rw is (halts k low before r why)
 
   report-ends : Ends claim keep-stem keep-loop break-stem break-loop t f es (judgedOf text rule log report)
@@ -160,8 +141,8 @@ module _ (text : List ℕ) (claim : ℕ) (keep-stem keep-loop break-stem break-l
 
   -- nothing but a refusal comes of texts that are not opened
   not-opened : (rule log : List ℕ) (r : Refusal) → openedOf text rule ≡ notOpened r → judgedOf text rule log sent ≡ Refused r
-  unfolding judgedOf
-  not-opened rule log r e = ap (λ (x : Opened). judgedFrom x log sent) e
+  unfolding judgedOf endOf
+  not-opened rule log r e = ap (λ (x : Opened). judgedEnd (endFrom x log) log sent) e
 
   module _ (t : run.Plant) (says : SaysTable (bytes text) t) (table : AcceptedTable t) where
     -- the table that is said is lent, part by part
@@ -185,8 +166,7 @@ module _ (text : List ℕ) (claim : ℕ) (keep-stem keep-loop break-stem break-l
         by : logs.Reading (widthOf (t .props)) log → OfLog claim keep-stem keep-loop break-stem break-loop t f log (judgedOf text rule log sent)
         by (logs.misformed i p r) =
             log-refused i p
-            (ap (λ (x : Opened). judgedFrom x log sent) (behind-rule t table text says rule f rule-says)
-            ∙ ap (λ (x : LogRead). judgedIn (x .outcome) (start t table text says rule f rule-says) log sent) r)
+            (ap (λ (e : LogEnd). judgedEnd e log sent) (end-read t table text says rule f rule-says log r))
         by (logs.accepted es ok small r at) =
             let log-says : SaysLog (bytes log) (t .props) es = record { text = log; is = refl; said = small; writable = ok } in
             log-said es log-says (report-ends t table text says rule f rule-says log es log-says claim keep-stem keep-loop break-stem break-loop)

@@ -1,6 +1,5 @@
 -- The answer of print_rule on paper: how many bytes were printed, or the refusal (01, The shape each place takes).
-use Prim.Native.Nat.{ℕ}
-use mathlib.Core.List.{List, [], _∷_}
+use mathlib.Core.List.{[], _∷_}
 use Rattle.answers.specs.Paper.{Paper, accepted, refusal}
 use Rattle.rule.specs.declared.Printed.{Printed}
 use Rattle.rule.specs.declared.Printed.the-variants.{Text, Refused}

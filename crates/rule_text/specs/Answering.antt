@@ -4,7 +4,7 @@ use mathlib.Core.Path.{_≡_, refl, sym, ap, subst, _∙_}
 use mathlib.Core.Logic.{_↔_, ⊎-elim}
 use mathlib.Core.List.{List}
 use Rattle.answers.specs.declared.Kind.{Kind}
-use Rattle.answers.specs.declared.Kind.the-variants.{Counts, Bits}
+use Rattle.answers.specs.declared.Kind.the-variants.{Bits}
 use Rattle.answers.specs.declared.Outcome.the-variants.{Accepted}
 use Rattle.answers.specs.Chain.{refusedAs, kindOf, placeOf}
 use Rattle.plant.specs.declared.Plant.{Plant}
@@ -12,7 +12,6 @@ use Rattle.plant.specs.Table.{tableOutcome}
 use Rattle.plant.specs.Check as table
 use Rattle.syntax.specs.declared.Rule.{Rule}
 use Rattle.syntax.specs.Value.{ruleOf}
-use Rattle.syntax.specs.Grammar.{longestRule}
 use Rattle.rule_text.specs.declared.RuleRead.{RuleRead}
 use Rattle.rule_text.specs.Reading.{noRule, accepted, textRead, ofTable, ruleRead}
 use Rattle.rule_text.specs.Paper.{Beside, Takes, Because, counts, bits, too-long, no-text, unknown, too-large, too-many}

@@ -3,7 +3,6 @@ use Prim.Native.Nat.{ℕ}
 use mathlib.Core.Path.{_≡_, sym, _∙_}
 use mathlib.Core.List.{List, map}
 use lib.ListN.{length, length-map}
-use Rattle.checks.specs.Checks.{inputOutcome}
 use mir.Val.{Val}
 use denote.Laws.{Is}
 use denote.Struct.Field.{u8-field, u64-field, array-field}

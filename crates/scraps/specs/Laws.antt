@@ -1,14 +1,13 @@
 -- What the checks of the two calls give the code behind them.
 use Prim.Native.Nat.{ℕ, _+_, _-_, _^_, _≤_, _<_}
 use native.Mathlib.Omega.{arith}
-use mathlib.Core.Path.{_≡_, refl, sym, ap, ap₂, subst, _∙_}
-use mathlib.Core.Bool.{Bool, true, false, So, cond, _&&_, _||_, false≢true}
-use mathlib.Core.Logic.{_↔_, Iff·trans, inl, inr, ⊎-elim}
+use mathlib.Core.Path.{_≡_, refl, sym, ap, ap₂, _∙_}
+use mathlib.Core.Bool.{Bool, true, false, So, cond, _&&_, _||_}
+use mathlib.Core.Logic.{Iff·trans, inl, inr, ⊎-elim}
 use mathlib.Core.List.{List, []}
 use borrow.Author.Tests.{lt-ltb, le-ltb, le-leb, lt-leb, ltb-true, leb-true, eq-eqb, ne-eqb}
-use lib.Dec.{leb, ltb, eqb}
-use lib.ListN.{length, take}
-use Rattle.meaning.specs.Says.{Says}
+use lib.Dec.{leb, ltb}
+use lib.ListN.{length}
 use Rattle.meaning.specs.Run as run
 use Rattle.meaning.specs.Formula.{Formula}
 use Rattle.words.specs.Truth.{and-says, or-says, says-and, says-same}
@@ -34,17 +33,15 @@ use Rattle.text.specs.Number.{widthOf}
 use Rattle.sides.specs.declared.Monitor.{Monitor}
 use Rattle.sides.specs.Held.{modelOf}
 use Rattle.monitor.specs.Calls.{lit, table, formula, checkedOf, monitorFits, lookCall, stepCall}
-use Rattle.watching.specs.Watching.{Held}
 use Rattle.course.specs.Course.{Fitting}
 use Rattle.course.specs.Laid.{laid}
 use Rattle.radio.specs.declared.Radio.{Radio}
 use Rattle.radio.specs.declared.Went.{Went}
-use Rattle.radio.specs.Radio.{Heard, hearAll}
-use Rattle.radio.specs.Kept.{partOf, heardBy, radioOf, keptOk, Fit, Listened}
+use Rattle.radio.specs.Radio.{hearAll}
+use Rattle.radio.specs.Kept.{heardBy, radioOf, keptOk, Fit, Listened}
 use Rattle.radio.specs.Laws.{ok-kept}
 use Rattle.controller.specs.declared.LogAnswer.{LogAnswer}
 use Rattle.controller.specs.declared.LogAnswer.the-variants as Logs
-use Rattle.scraps.specs.declared.Taken.{Taken}
 use Rattle.scraps.specs.Calls.{longest, linesIn, partFits, roomOutcome, heardAnswer, Took, tookBy, endOutcome, heldOutcome, keptOutcome, takeOutcome, takeCall, finishCall}
 
 -- ---- two sets of pairs at once

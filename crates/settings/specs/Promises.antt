@@ -2,29 +2,27 @@
 -- that means is said here by specs/Answers.
 use mathlib.Core.Path.{_≡_, refl, sym, ap, ap₂, _∙_}
 use mathlib.Core.Bool.{Bool, true, false, cond, false≢true}
-use mathlib.Core.List.{List, [], _∷_}
-use Prim.Native.Nat.{ℕ, suc, _+_, _-_, _≤_, _<_}
+use mathlib.Core.List.{List, []}
+use Prim.Native.Nat.{ℕ, _+_, _-_, _<_}
 use mathlib.Core.Logic.{_↔_}
 use native.Mathlib.Omega.{arith}
-use lib.Dec.{eqb, ltb}
-use lib.ListN.{length, take, drop}
-use borrow.Author.Tests.{eqb-true, eqb-false, eq-eqb, ne-eqb, le-ltb}
+use lib.Dec.{eqb}
+use lib.ListN.{length}
+use borrow.Author.Tests.{eqb-true, eq-eqb, ne-eqb, le-ltb}
 use denote.Ref.{RefT}
 use Rattle.sheet.specs.declared.Key.{Key}
-use Rattle.sheet.specs.declared.Lines.{Lines}
 use Rattle.sheet.specs.declared.Scan.{Scan}
 use Rattle.sheet.specs.declared.Scan.the-variants.{Good, Bad}
-use Rattle.sheet.specs.Sheet.{Values, IsSheet, Malformed, valueOf, fromOf}
+use Rattle.sheet.specs.Sheet.{Values, IsSheet, valueOf, fromOf}
 use Rattle.sheet.specs.Machine.{scanOf}
 use Rattle.sheet.specs.Read.{linesOf}
-use Rattle.sheet.specs.Promises.{Told, accepted-exactly, refused-exactly}
-use Rattle.sheet.specs.Where.{lengthOf, startOf, length-told, start-told, value-stands, value-within, empty}
-use Rattle.settings.specs.declared.Spot.{Spot}
+use Rattle.sheet.specs.Promises.{accepted-exactly, refused-exactly}
+use Rattle.sheet.specs.Where.{lengthOf, length-told, start-told, value-stands, value-within, empty}
 use Rattle.settings.specs.declared.Asked.{Asked}
 use Rattle.settings.specs.declared.Asked.the-variants.{At, Refused}
-use Rattle.answers.specs.declared.Kind.the-variants.{NoKey, SheetText}
-use Rattle.settings.specs.Part.{sheetOf, spotAt, fitting, bytesAt, shifted, IsPart}
-use Rattle.settings.specs.Asked.{refusalOf, spotIn, chosen, judged, asked, spotOf}
+use Rattle.answers.specs.declared.Kind.the-variants.{NoKey}
+use Rattle.settings.specs.Part.{spotAt, fitting, bytesAt, shifted, IsPart}
+use Rattle.settings.specs.Asked.{refusalOf, spotIn, chosen, judged, asked}
 use Rattle.settings.specs.Answers.{Answers, local-malformed, shared-malformed, in-local, in-shared, in-neither, spotOfValue}
 
 -- ---- the machine's lines are the sheet's

@@ -20,7 +20,7 @@ use Rattle.sheet.specs.Sheet.{numberFrom, Values, IsSheet, Begins, Stops
 use Rattle.sheet.specs.Machine.{stateAfter, stuck, may, filed, scanFrom, begin, scanOf}
 use Rattle.sheet.specs.Short.{sheet-short}
 use Rattle.sheet.specs.Read.{linesOf, sheet-read}
-use Rattle.sheet.specs.Reached.{Reached, before, naming, giving, reached-none, reached-begins, reached-more}
+use Rattle.sheet.specs.Reached.{Reached, before, reached-none, reached-begins, reached-more}
 
 -- a text and its lines
 pub record Told (s : List ℕ) (l : Lines) : Type 0 where

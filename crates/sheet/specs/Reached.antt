@@ -14,7 +14,7 @@ use Rattle.sheet.specs.declared.State.{State}
 use Rattle.sheet.specs.declared.State.the-variants.{Before, Name, Value, Stuck}
 use Rattle.sheet.specs.declared.Grown.{Grown}
 use Rattle.sheet.specs.declared.Grown.the-variants.{To, Not}
-use Rattle.sheet.specs.Sheet.{editionKey, ruleKey, closingKey, Each, none, more, numberFrom, Decimal, Printable, Values, lineOf, textOf, Given, left-out, given, IsSheet, Begins}
+use Rattle.sheet.specs.Sheet.{editionKey, ruleKey, closingKey, Each, none, more, numberFrom, Values, lineOf, textOf, Given, left-out, given, IsSheet, Begins}
 use Rattle.sheet.specs.Machine.{lineBy, begun, keyByte, keySize, named, valueGrown, further, ended, stateAfter, stuck, fileAs, filed}
 use Rattle.sheet.specs.Value.{FineOf, amount, fine-some, fine}
 use Rattle.sheet.specs.Read.{keyOf, linesOf}

@@ -1,6 +1,6 @@
 -- Every sheet is read: the machine goes through its lines to the end.
 use Prim.Native.Nat.{ℕ, zero, suc, _+_, _≤_, _<_}
-use mathlib.Core.Path.{_≡_, refl, sym, ap, _∙_}
+use mathlib.Core.Path.{_≡_, refl, ap}
 use mathlib.Core.List.{List, [], _∷_, _++_, append-assoc, append-nil}
 use native.Mathlib.Omega.{arith}
 use lib.ListN.{length, length-append}
@@ -9,7 +9,7 @@ use Rattle.sheet.specs.declared.Lines.{Lines}
 use Rattle.sheet.specs.declared.Scan.the-variants.{Good}
 use Rattle.sheet.specs.declared.State.{State}
 use Rattle.sheet.specs.declared.State.the-variants.{Before, Value}
-use Rattle.sheet.specs.Sheet.{editionKey, ruleKey, closingKey, numberFrom, numberOf, Values, lineOf, textOf, Given, left-out, given, IsSheet}
+use Rattle.sheet.specs.Sheet.{editionKey, ruleKey, closingKey, numberFrom, numberOf, Values, lineOf, textOf, Given, given, IsSheet}
 use Rattle.sheet.specs.Machine.{
   linesAs,
   begin,

@@ -1,10 +1,10 @@
 -- What the machine does with the bytes of a value, and what a value is: the machine goes on with a byte exactly if the value may have it.
 use Prim.Native.Nat.{ℕ, zero, suc, _+_, _*_, _-_, _≤_, _<_}
-use mathlib.Core.Path.{_≡_, refl, sym, ap, _∙_}
+use mathlib.Core.Path.{_≡_, refl, sym}
 use mathlib.Core.Bool.{Bool, true, false, cond}
 use mathlib.Core.List.{List, [], _∷_, _++_}
 use native.Mathlib.Omega.{arith}
-use lib.Dec.{eqb, ltb, leb}
+use lib.Dec.{ltb, leb}
 use lib.ListN.{length, getD, length-append}
 use borrow.Author.Tests.{le-ltb, ltb-false, lt-leb, leb-false, ne-eqb, eqb-false}
 use Rattle.sheet.specs.declared.Grown.{Grown}

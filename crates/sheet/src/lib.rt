@@ -1,8 +1,9 @@
 // A settings sheet: up to three lines, `edition`, `rule` and `closing` in this order. What it is stands in specs/Sheet; here it is read byte by byte, by a machine with
 // four states, whose stuck state tells the place of a refusal.
+use text::byte_at;
+use words::index_of;
 ghost use mathlib.Core.Path.{_≡_};
 ghost use Prim.Native.Nat.{_+_, _<_};
-ghost use lib.ListN.{getD};
 ghost use Rattle.sheet.specs.declared.State.the-variants.{Name, Value};
 ghost use Rattle.sheet.specs.Machine.{
   lineBy,
@@ -83,13 +84,6 @@ pub enum State {
 pub enum Grown {
     To(usize),
     Not,
-}
-
-// The byte at a place, and 0 beyond the end.
-fn byte_at(text: &[u8], at: usize) -> u8
-    ensures { λ r. ⌜ r ≡ getD (now (text .entry)) at 0 ⌝ }
-{
-    if at < text.len() { text[at] } else { 0 }
 }
 
 // The line whose key begins with the byte, and 3 where none does.
@@ -175,13 +169,6 @@ fn range(lo: usize, hi: usize, n: usize) -> Grown
     Grown::To(n)
 }
 
-// A byte as a number.
-fn wide(b: u8) -> usize
-    ensures { λ r. ⌜ r ≡ b ⌝ }
-{
-    b as usize
-}
-
 // A decimal number with one digit more, from lo to hi, where hi is at most 65,535.
 fn grow_digit(lo: usize, hi: usize, at: usize, n: usize, b: u8) -> Grown
     ensures { λ r. ⌜ r ≡ digitGrown lo hi at n b ⌝ }
@@ -198,7 +185,7 @@ fn grow_digit(lo: usize, hi: usize, at: usize, n: usize, b: u8) -> Grown
     if lead_zero(at, n) {
         return Grown::Not;
     }
-    range(lo, hi, n * 10 + wide(b - 48))
+    range(lo, hi, n * 10 + index_of(b - 48))
 }
 
 // A rule with one byte more.

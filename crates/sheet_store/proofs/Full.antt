@@ -1,5 +1,4 @@
 -- A store's array has eight places: a parameter that is a store tells it by `c .good`.
-use Prim.Native.Nat.{ℕ}
 use mathlib.Core.Path.{_≡_, sym, _∙_}
 use mathlib.Core.List.{List, map}
 use lib.ListN.{length, length-map}

@@ -1,11 +1,11 @@
 -- WHAT WAS ADDED COMES OUT UNTIL IT IS THE OLDEST OF NINE: byte for byte as long as fewer than eight sheets were taken behind it (`comes-out`), and no more from the eighth on (`goes-out`).
-use Prim.Native.Nat.{ℕ, zero, suc, _+_, _-_, _≤_, _<_}
+use Prim.Native.Nat.{ℕ, suc, _+_, _-_, _≤_, _<_}
 use mathlib.Core.Path.{_≡_, refl, sym, ap, _∙_}
 use mathlib.Core.Bool.{Bool, true, false, cond}
 use mathlib.Core.List.{List, [], _∷_, _++_, append-assoc, append-nil}
 use mathlib.Core.Logic.{inr}
 use native.Mathlib.Omega.{arith}
-use lib.Dec.{eqb, ltb}
+use lib.Dec.{eqb}
 use lib.ListN.{length, drop, length-append, length-drop}
 use borrow.Author.Tests.{eqb-true, eqb-false, ltb-true}
 use Rattle.answers.specs.declared.Kind.the-variants.{NotHeld}

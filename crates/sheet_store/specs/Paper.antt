@@ -1,7 +1,6 @@
 -- The store's answers on paper: a count, or a refusal's number with its sheet and place.
 use mathlib.Core.Path.{_≡_, ap}
 use native.Mathlib.Omega.{arith}
-use Prim.Native.Nat.{ℕ}
 use Rattle.settings.specs.Paper.{Paper, counted, refusal, one-refusal, apart}
 use Rattle.sheet_store.specs.declared.AddAnswer.{AddAnswer}
 use Rattle.sheet_store.specs.declared.AddAnswer.the-variants as Adds

@@ -1,17 +1,15 @@
 -- What the store promises. The contracts of add and copy_out are equations, `r ≡ added store sheet` and `copied store edition buffer`; what that means is said here by sheet/specs/Sheet
 -- and by the texts that a store holds (`Shelf`, oldest first).
 use Prim.Native.Nat.{ℕ, zero, suc, _+_, _≤_, _<_}
-use mathlib.Core.Path.{_≡_, refl, sym, ap, _∙_}
+use mathlib.Core.Path.{_≡_, refl, ap, _∙_}
 use mathlib.Core.Bool.{Bool, true, false, cond, false≢true}
 use mathlib.Core.List.{List, [], _∷_, _++_}
 use mathlib.Core.Logic.{_↔_}
 use native.Mathlib.Omega.{arith}
-use native.Mathlib.Decide.{decLe}
 use lib.Dec.{eqb, ltb, leb}
-use lib.ListN.{length, getD, take, drop, length-append, length-drop}
+use lib.ListN.{length, getD, take, drop, length-drop}
 use lib.Seq.{length-take-le, getD-take}
-use borrow.Author.Tests.{eq-eqb, ne-eqb, lt-ltb, le-ltb, le-leb, lt-leb, eqb-true, eqb-false, ltb-true, ltb-false, leb-true, leb-false}
-use Rattle.sheet.specs.declared.Lines.{Lines}
+use borrow.Author.Tests.{lt-ltb, le-ltb, eqb-true, eqb-false, ltb-true, ltb-false, leb-true, leb-false}
 use Rattle.sheet.specs.declared.Scan.{Scan}
 use Rattle.sheet.specs.declared.Scan.the-variants.{Good, Bad}
 use Rattle.sheet.specs.Sheet.{numberFrom, numberOf, Decimal, Values, Given, left-out, given, IsSheet, Malformed}
@@ -22,7 +20,7 @@ use Rattle.sheet_store.specs.declared.Kept.{Kept}
 use Rattle.sheet_store.specs.declared.Store.{Store}
 use Rattle.sheet_store.specs.declared.Added.{Added}
 use Rattle.answers.specs.declared.Kind.the-variants.{Value, NoKey, SheetText, NotNewer}
-use Rattle.sheet_store.specs.Store.{numberIn, editionOf, keptOf, dropped, pushed, blank, someLong, overfullOf, newestOf, refusedAs, heldAs, addedBy, addedFor, added, keeps, copied}
+use Rattle.sheet_store.specs.Store.{numberIn, editionOf, keptOf, dropped, pushed, blank, someLong, overfullOf, refusedAs, heldAs, addedBy, addedFor, added, keeps, copied}
 use Rattle.sheet_store.specs.Shelf.{Shelf, newestFrom, newest-drop, emptyStore, shelf-empty, shelf-fits, shelf-push, shelf-drop, shelf-newest}
 
 -- the texts with one more, of eight without the oldest

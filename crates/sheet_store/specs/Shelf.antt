@@ -1,21 +1,21 @@
 -- What a store holds: texts of ascending editions, the oldest first; and what the calls do with them.
-use Prim.Native.Nat.{ℕ, zero, suc, _+_, _-_, _≤_, _<_}
+use Prim.Native.Nat.{ℕ, suc, _+_, _-_, _≤_, _<_}
 use mathlib.Core.Path.{_≡_, refl, sym, ap, ap₂, _∙_}
 use mathlib.Core.Bool.{Bool, true, false, cond}
-use mathlib.Core.List.{List, [], _∷_, _++_, append-assoc, append-nil}
+use mathlib.Core.List.{List, [], _∷_, _++_}
 use mathlib.Core.Logic.{_⊎_, inl, inr}
 use native.Mathlib.Omega.{arith}
 use native.Mathlib.Numerals.{add-one}
-use lib.Dec.{eqb, ltb, leb}
-use lib.ListN.{length, getD, take, drop, set, replicate, length-append, length-take, length-drop, length-set}
+use lib.Dec.{eqb, ltb}
+use lib.ListN.{length, getD, take, drop, set, replicate, length-append, length-drop, length-set}
 use lib.Seq.{take-suc-set, take-at, take-all, take-append-seam, length-take-le, getD-take}
-use borrow.Author.Tests.{eq-eqb, ne-eqb, lt-ltb, le-ltb, lt-leb, le-leb}
+use borrow.Author.Tests.{eq-eqb, ne-eqb, lt-ltb, le-ltb}
 use Rattle.words.specs.Over.{over}
-use Rattle.answers.specs.declared.Kind.the-variants.{Value, Room, NotHeld}
+use Rattle.answers.specs.declared.Kind.the-variants.{Room, NotHeld}
 use Rattle.sheet_store.specs.declared.Kept.{Kept}
 use Rattle.sheet_store.specs.declared.Store.{Store}
 use Rattle.sheet_store.specs.declared.Copied.the-variants as Copies
-use Rattle.sheet_store.specs.Store.{storeAs, keptAs, textIn, editionOf, editionIn, keptOf, slid, dropped, pushed, blank, someLong, overfullOf, newestOf, placeOf, Out, keeps, copiedKept, copiedAt, copied}
+use Rattle.sheet_store.specs.Store.{storeAs, keptAs, textIn, editionOf, editionIn, keptOf, slid, dropped, pushed, blank, someLong, overfullOf, newestOf, placeOf, Out, keeps, copied}
 
 -- ---- editions
 

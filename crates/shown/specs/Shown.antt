@@ -16,7 +16,6 @@ use Rattle.around.specs.Around.{place}
 use Rattle.around.specs.Along.{lassoOf}
 use Rattle.shown.specs.declared.Found.{Found}
 use Rattle.shown.specs.declared.Found.the-variants.{Correct, Fails}
-use Rattle.shown.specs.declared.Failing.{Failing}
 use Rattle.shown.specs.declared.Failing.the-variants.{Start, Moves, Fairness, Agreement, Value}
 use Rattle.shown.specs.Positions.{positionAt}
 

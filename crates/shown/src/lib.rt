@@ -7,6 +7,7 @@ use around::run::holds_on_run;
 use plant::Plant;
 use positions::agree;
 use syntax::Rule;
+use words::index_of;
 ghost use mathlib.Core.Path.{_≡_};
 ghost use Prim.Native.Nat.{_≤_, _<_, _+_};
 ghost use lib.ListN.{length, getD};
@@ -31,17 +32,11 @@ pub enum Found {
     Fails(Failing),
 }
 
-fn wide(state: u8) -> usize
-    ensures { λ r. ⌜ r ≡ state ⌝ }
-{
-    state as usize
-}
-
 // The state at a place of the run, and 0 beyond.
 fn state_at(run: &[u8], at: usize) -> usize
     ensures { λ r. ⌜ r ≡ getD (now (run .entry)) at 0 ⌝ }
 {
-    if at < run.len() { wide(run[at]) } else { 0 }
+    if at < run.len() { index_of(run[at]) } else { 0 }
 }
 
 // Entry k of a table, and 0 beyond its end.

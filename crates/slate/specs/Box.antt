@@ -114,12 +114,5 @@ storedOf h = listBelow 384 (heldWord h)
 unfoldable pub changedWord : List ℕ → Monitor → ℕ → ℕ
 changedWord w m p = cond (ltb p 233) (getD w p 0) (cond (ltb p 363) (monitorWord m (p - 233)) (getD w p 0))
 
--- the words of a monitor, and a word of a box with these in it
-unfoldable pub monitorWords : Monitor → List ℕ
-monitorWords m = listBelow 130 (monitorWord m)
-
-unfoldable pub splicedWord : List ℕ → List ℕ → ℕ → ℕ
-splicedWord w parts p = cond (ltb p 233) (getD w p 0) (cond (ltb p 363) (getD parts (p - 233) 0) (getD w p 0))
-
 unfoldable pub withMonitor : List ℕ → Monitor → List ℕ
 withMonitor w m = listBelow 384 (changedWord w m)

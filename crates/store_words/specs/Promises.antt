@@ -5,19 +5,18 @@ use mathlib.Core.Bool.{Bool, true, false, cond}
 use mathlib.Core.List.{List, [], _∷_, _++_}
 use native.Mathlib.Omega.{arith}
 use native.Mathlib.Decide.{decLt}
-use lib.Dec.{eqb, ltb, leb}
+use lib.Dec.{eqb, leb}
 use lib.ListN.{length, getD, take, drop, set, replicate, length-append, length-drop, length-set, length-replicate, List·getD-append, List·getD-eq-default}
 use lib.Seq.{getD-append-add, getD-drop, length-take-le}
 use Rattle.words.specs.Below.{listBelow}
 use Rattle.words.specs.Lists.{length-list, list-at, zeros}
-use Rattle.words.specs.Over.{over}
 use Rattle.sheet.specs.declared.Scan.{Scan}
 use Rattle.sheet.specs.declared.Scan.the-variants.{Good, Bad}
 use Rattle.sheet.specs.Machine.{scanOf}
 use Rattle.sheet_store.specs.declared.Kept.{Kept}
 use Rattle.sheet_store.specs.declared.Store.{Store}
 use Rattle.sheet_store.specs.declared.Added.{Added}
-use Rattle.sheet_store.specs.Store.{blank, keptOf, slid, dropped, pushed, overfullOf, newestOf, heldAs, addedBy, addedFor, added}
+use Rattle.sheet_store.specs.Store.{blank, keptOf, dropped, pushed, overfullOf, newestOf, heldAs, addedBy, addedFor, added}
 use Rattle.sheet_store.specs.Laws.{scan-short}
 use Rattle.sheet_store.specs.Shelf.{emptyStore, Shelf}
 use Rattle.sheet_store.specs.Promises.{adding, shelving, always-shelf}

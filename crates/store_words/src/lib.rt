@@ -5,6 +5,7 @@ use sheet_store::Added;
 use sheet_store::Copied;
 use sheet_store::Kept;
 use sheet_store::Store;
+use words::of_byte;
 ghost use mathlib.Core.Path.{_≡_};
 ghost use Prim.Native.Nat.{_<_};
 ghost use Rattle.sheet_store.specs.Store.{added, copied};
@@ -62,13 +63,6 @@ pub fn store_of(words: [u64; 1040]) -> Store
     }
 }
 
-// A byte as a word.
-fn wide(b: u8) -> u64
-    ensures { λ r. ⌜ (r ≡ b) × (r < 256) ⌝ }
-{
-    b as u64
-}
-
 // Word k of a sheet's bytes.
 fn word_at(bytes: [u8; 1024], k: usize) -> u64
     requires { ⌜ k < 128 ⌝ }
@@ -82,11 +76,11 @@ fn word_at(bytes: [u8; 1024], k: usize) -> u64
     let f = e + 1;
     let g = f + 1;
     let h = g + 1;
-    let low = wide(bytes[d])
+    let low = of_byte(bytes[d])
         + 256
-            * (wide(bytes[e])
-                + 256 * (wide(bytes[f]) + 256 * (wide(bytes[g]) + 256 * wide(bytes[h]))));
-    wide(bytes[p]) + 256 * (wide(bytes[b]) + 256 * (wide(bytes[c]) + 256 * low))
+            * (of_byte(bytes[e])
+                + 256 * (of_byte(bytes[f]) + 256 * (of_byte(bytes[g]) + 256 * of_byte(bytes[h]))));
+    of_byte(bytes[p]) + 256 * (of_byte(bytes[b]) + 256 * (of_byte(bytes[c]) + 256 * low))
 }
 
 // Word p of a store.

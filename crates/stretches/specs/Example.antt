@@ -4,7 +4,6 @@ use mathlib.Core.Path.{_≡_, refl}
 use mathlib.Core.Bool.{true, false}
 use mathlib.Core.List.{List, [], _∷_}
 use Rattle.answers.specs.declared.Verdict.the-variants.{Inconclusive, True, OutOfModel}
-use Rattle.stretches.specs.declared.Stretch.{Stretch}
 use Rattle.stretches.specs.Afresh.{Shown, stretchesFrom, linesOf}
 
 abbrev day : List Shown

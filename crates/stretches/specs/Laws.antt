@@ -1,19 +1,18 @@
 -- NOTING ONE EVENT MORE IS THE SHEET OF ONE EVENT MORE.
-use Prim.Native.Nat.{ℕ, zero, suc, _+_, _-_, _^_, _≤_, _<_, zero-le}
+use Prim.Native.Nat.{ℕ, suc, _+_, _-_, _^_, _≤_, _<_, zero-le}
 use native.Mathlib.Omega.{arith}
-use native.Mathlib.Numerals.{add-one}
 use mathlib.Core.Path.{_≡_, refl, sym, ap, ap₂, _∙_}
 use mathlib.Core.Bool.{Bool, true, false, cond}
-use mathlib.Core.List.{List, [], _∷_, _++_, map, foldl, foldl-append, map-append, append-assoc, append-nil}
-use lib.Dec.{eqb, ltb}
-use lib.ListN.{length, getD, set, replicate, length-append, length-map}
+use mathlib.Core.List.{List, [], _∷_, _++_, map, foldl-append, map-append, append-assoc}
+use lib.Dec.{eqb}
+use lib.ListN.{length, getD, set, replicate, length-append}
 use borrow.Author.Tests.{lt-ltb, ne-eqb}
 use Rattle.answers.specs.declared.Verdict.{Verdict}
 use Rattle.answers.specs.declared.Verdict.the-variants.{Inconclusive}
 use Rattle.stretches.specs.declared.Stretch.{Stretch}
 use Rattle.stretches.specs.declared.DaySheet.{DaySheet}
-use Rattle.stretches.specs.Sheet.{blank, sheetOf, decides, decidedBy, decidedAfter, oneMore, firstLine, moreLine, begunBy, goneOnBy, notedBy}
-use Rattle.stretches.specs.Afresh.{Shown, before, stretchesFrom, stretches, firstNumber, lastVerdict, decidedIn, lineOf, linesOf}
+use Rattle.stretches.specs.Sheet.{blank, sheetOf, decides, decidedAfter, oneMore, firstLine, moreLine, begunBy, goneOnBy, notedBy}
+use Rattle.stretches.specs.Afresh.{Shown, before, stretchesFrom, lastVerdict, decidedIn, lineOf, linesOf}
 
 -- numbers have 32 bits
 abbrev pub Low : List Shown → Type 0

@@ -8,7 +8,6 @@ use crate::show::put;
 use crate::show::tell;
 use answers::Outcome;
 ghost use Prim.Native.Nat.{_≤_};
-ghost use lib.ListN.{length};
 
 // The outcome of a text, a log's or a table's.
 fn outcome_of(text: &[u8], is_log: bool) -> Outcome {

@@ -12,7 +12,7 @@ use Rattle.meaning.specs.Formula.{Formula, Holds}
 use Rattle.meaning.specs.Run.{Plant, Lasso, FairLasso, stateAt, labelOf, labelsAlong, nextOf}
 use Rattle.meaning.specs.Event.{Seen, Agrees, History, more, again, now}
 use Rattle.meaning.specs.Pair.{PairAt, Live}
-use Rattle.meaning.specs.Step.{leads, HasValue, Led}
+use Rattle.meaning.specs.Step.{HasValue, Led}
 use Rattle.meaning.specs.Verdict.{Chosen, At}
 use Rattle.theory.specs.Values.{valuesAt, pair-of}
 use Rattle.theory.specs.Join.{join, join-first, join-then, join-fair}

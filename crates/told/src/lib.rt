@@ -21,8 +21,9 @@ pub use sheets::sheet_refused;
 pub use texts::sheet_written;
 pub use texts::table_written;
 use witness::Witnessed;
-ghost use mathlib.Core.Path.{_≡_};
+use words::of_byte;
 ghost use Rattle.walk.specs.declared.Lengths.{Lengths};
+ghost use mathlib.Core.Path.{_≡_};
 ghost use Rattle.told.specs.Told.{refusedBy, stoppedBy, shownAs, heardAs, endAs, runAs, closedAs};
 
 // Number 0: accepted. Else the refusal's, with its place. The header has the same struct.
@@ -34,19 +35,13 @@ pub struct Answer {
     pub value: u64,
 }
 
-fn wide(number: u8) -> u64
-    ensures { λ r. ⌜ r ≡ number ⌝ }
-{
-    number as u64
-}
-
 // Its number and its place; the other two numbers are 0.
 pub fn refused(refusal: Refusal) -> Answer
     ensures { λ r. ⌜ r ≡ refusedBy refusal ⌝ }
 {
     let kind = refusal.kind;
     Answer {
-        number: wide(kind.number()),
+        number: of_byte(kind.number()),
         place: refusal.place as u64,
         count: 0,
         value: 0,
@@ -60,7 +55,7 @@ pub fn stopped(stop: Stop) -> Answer
     let refusal = stop.refusal;
     let kind = refusal.kind;
     Answer {
-        number: wide(kind.number()),
+        number: of_byte(kind.number()),
         place: refusal.place as u64,
         count: stop.event as u64,
         value: 0,
@@ -79,7 +74,7 @@ pub fn shown(answer: Shown) -> Answer
                 number: 0,
                 place: 0,
                 count: lamp.left as u64,
-                value: wide(verdict.number()),
+                value: of_byte(verdict.number()),
             }
         }
     }
@@ -142,7 +137,7 @@ pub fn closed(answer: Closed) -> Answer
             number: 0,
             place: 0,
             count: 0,
-            value: wide(verdict.number()),
+            value: of_byte(verdict.number()),
         },
     }
 }

@@ -1,11 +1,11 @@
 // Settings sheets, asked and kept.
 use crate::Answer;
-use crate::wide;
 use settings::Asked;
 use settings::SheetRefusal;
 use settings::Spot;
 use sheet_store::AddAnswer;
 use sheet_store::Copied;
+use words::of_byte;
 ghost use mathlib.Core.Path.{_≡_};
 ghost use Prim.Native.Nat.{_-_};
 ghost use Rattle.told.specs.Told.{refusedSheet, askedAs, heldAs, copiedAs};
@@ -16,10 +16,10 @@ pub fn sheet_refused(refusal: SheetRefusal) -> Answer
 {
     let kind = refusal.kind;
     Answer {
-        number: wide(kind.number()),
+        number: of_byte(kind.number()),
         place: refusal.place as u64,
         count: 0,
-        value: wide(refusal.sheet),
+        value: of_byte(refusal.sheet),
     }
 }
 
@@ -45,7 +45,7 @@ pub fn asked(answer: Asked) -> Answer
             number: 0,
             place: spot.from as u64,
             count: length_of(spot) as u64,
-            value: wide(spot.sheet),
+            value: of_byte(spot.sheet),
         },
     }
 }

@@ -20,7 +20,6 @@ use Rattle.text.specs.Number.{widthOf}
 use Rattle.text.specs.Lines.{lineStart}
 use Rattle.log.specs.Read.{bytesIn, logRead}
 use Rattle.live.specs.Prepare.{preparedOf}
-use Rattle.monitor.specs.declared.Watched.{Watched}
 use Rattle.monitor.specs.Calls.{openCall}
 use Rattle.course.specs.Course.{Course, courseOf}
 use Rattle.report.specs.Text.{refusedText, startText}

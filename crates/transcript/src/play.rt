@@ -15,7 +15,6 @@ ghost use mathlib.Core.List.{_++_};
 ghost use Prim.Native.Nat.{_+_, _*_, _≤_};
 ghost use lib.ListN.{length};
 ghost use Rattle.answers.specs.declared.Outcome.the-variants.{Accepted};
-ghost use Rattle.checks.specs.Checks.{inputOutcome};
 ghost use Rattle.text.specs.Number.{widthOf};
 ghost use Rattle.log.specs.Read.{bytesIn};
 ghost use Rattle.live.specs.Prepare.{preparedOf};

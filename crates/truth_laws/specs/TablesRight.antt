@@ -29,7 +29,6 @@ use Rattle.truth.specs.Ready.{Ready}
 use Rattle.shape.specs.Shape.{kindsOf, nextsIn, partsIn, orderIn}
 use Rattle.truth.specs.Nodes.{wordAt, holdsOf}
 use Rattle.truth.specs.declared.rows.Asked.{Asked}
-use Rattle.truth.specs.declared.tables.Tables.{Tables}
 use Rattle.truth.specs.declared.rows.Asked.the-variants.{Low, High, Operand, Settled}
 use Rattle.truth.specs.Tables.{wordsIn, rowsIn, tablesOf}
 use Rattle.truth.specs.RightTables.{RightTables}

@@ -1,9 +1,9 @@
 -- ALL EVENTS, LOST ONES TOO (02, h): those that the runs are judged by. What must be believed of numbers is here and in event_numbers/specs/Numbers.
-use Prim.Native.Nat.{ℕ, zero, suc, _+_}
+use Prim.Native.Nat.{ℕ, _+_}
 use mathlib.Core.Path.{_≡_, refl, sym, ap, _∙_}
 use mathlib.Core.Bool.{Bool, true, false}
 use mathlib.Core.List.{List, [], _∷_, _++_, append-assoc, append-nil}
-use lib.ListN.{length, getD, take}
+use lib.ListN.{getD, take}
 use Rattle.meaning.specs.Event as meaning
 use Rattle.log.specs.declared.Event.{Event}
 use Rattle.log.specs.Log.{nothing}

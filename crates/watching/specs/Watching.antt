@@ -1,12 +1,11 @@
 -- The calls, from an accepted table and rule and from the opening on: checks 1, 2 and 9 pass for ever, so a step is the model's, of all that its event brings,
 -- if the event is legal and its number in turn, and else a refusal by 10 or 16 that leaves the monitor. Any events may come.
-use Prim.Native.Nat.{ℕ, _+_, _^_, _≤_, _<_}
+use Prim.Native.Nat.{ℕ, _+_, _^_, _≤_}
 use native.Mathlib.Omega.{arith}
 use mathlib.Core.Path.{_≡_, refl, sym, ap, subst, _∙_}
 use mathlib.Core.Logic.{_↔_}
-use mathlib.Core.Bool.{Bool, true, false, So, cond, _&&_}
-use mathlib.Core.List.{List, [], _∷_, _++_, foldl, foldl-append}
-use lib.Dec.{leb}
+use mathlib.Core.Bool.{Bool, true, false, _&&_}
+use mathlib.Core.List.{List, [], _∷_, foldl, foldl-append}
 use lib.ListN.{length, replicate}
 use Rattle.meaning.specs.Formula.{Formula}
 use Rattle.meaning.specs.Run as run
@@ -18,7 +17,7 @@ use Rattle.pairs.specs.declared.Pairs.{Pairs}
 use Rattle.model.specs.LiveSet.{liveSet}
 use Rattle.model.specs.Lives.{live-set}
 use Rattle.model.specs.Sets.{PairSet}
-use Rattle.model.specs.Checks.{pairsOk, pairs-says, eventOk, legal-says}
+use Rattle.model.specs.Checks.{pairsOk, pairs-says, legal-says}
 use Rattle.model.specs.Rule.{opening-sets, step-sets}
 use Rattle.model.specs.Monitor as model
 use Rattle.answers.specs.declared.Kind.the-variants.{IllegalEvent, Number as NumberKind}
@@ -32,7 +31,6 @@ use Rattle.syntax.proofs.Values.{full-value}
 use Rattle.syntax.specs.Value.{formulaOf}
 use Rattle.log.specs.declared.Event.{Event}
 use Rattle.log.specs.Legal.{seenOf, legalOf, eventOf}
-use Rattle.checks.specs.Checks.{inputOutcome}
 use Rattle.checks.specs.Input.{Input, input-accepted}
 use Rattle.sides.specs.declared.Monitor.{Monitor}
 use Rattle.sides.specs.Held.{modelOf, monitorOf}

@@ -7,7 +7,7 @@ use mathlib.Core.Bool.{true, false, _&&_, _||_, false≢true}
 use native.Mathlib.Omega.{arith}
 use native.Mathlib.Decide.{decLt}
 use Rattle.meaning.specs.Says.{Says}
-use Rattle.meaning.specs.Formula.{Formula, until, release}
+use Rattle.meaning.specs.Formula.{Formula}
 use Rattle.words.specs.Truth.{says-not, says-and, says-or, says-implies, says-true, says-false, says-dec}
 use Rattle.syntax.specs.declared.Op.{Op}
 use Rattle.syntax.specs.Grammar.{Level, Side, Atom, is-false, is-true, is-prop, Unary, is-not, is-next, is-finally, is-globally, Binary, is-implies, is-or, is-and, is-until, is-release}

@@ -1,6 +1,5 @@
 -- The answer of witness on paper: the lengths of the stem and of the loop, or the refusal (01, The shape each place takes).
-use Prim.Native.Nat.{ℕ}
-use mathlib.Core.List.{List, [], _∷_}
+use mathlib.Core.List.{[], _∷_}
 use Rattle.answers.specs.Paper.{Paper, accepted, refusal}
 use Rattle.witness.specs.declared.Witnessed.{Witnessed}
 use Rattle.witness.specs.declared.Witnessed.the-variants.{Run, Refused}

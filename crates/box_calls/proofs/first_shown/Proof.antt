@@ -1,5 +1,5 @@
 -- `first_shown`: each outcome computes.
-use mathlib.Core.Path.{refl, ap, sym, _∙_}
+use mathlib.Core.Path.{refl, ap}
 use borrow.Author.Needs.{needs}
 use Rattle.answers.specs.declared.Answer.the-variants.{Shown}
 use Rattle.box_calls.proofs.first_shown.Statement.{statement}

@@ -1,5 +1,5 @@
 -- `step`: by what the three calls ensure.
-use mathlib.Core.Path.{_≡_, ap, _∙_}
+use mathlib.Core.Path.{ap, _∙_}
 use borrow.Author.Needs.{needs}
 use Rattle.monitor.specs.declared.Watched.{Watched}
 use Rattle.slate.specs.declared.Held.{Held}

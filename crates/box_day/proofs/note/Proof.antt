@@ -1,5 +1,5 @@
 -- `note`: by what the calls ensure.
-use mathlib.Core.Path.{_≡_, ap, _∙_}
+use mathlib.Core.Path.{ap, _∙_}
 use borrow.Author.Needs.{needs}
 use Rattle.day_sheet.specs.declared.Noted.{Noted}
 use Rattle.box_day.specs.Day.{boxNoted, dayNoted}

@@ -2,7 +2,6 @@
 use borrow.Author.Needs.{needs}
 use mathlib.Core.Path.{refl, ap}
 use Rattle.answers.specs.declared.Refusal.{Refusal}
-use Rattle.controller.specs.declared.LogAnswer.{LogAnswer}
 use Rattle.controller.specs.declared.LogAnswer.the-variants.{Stopped}
 use Rattle.controller.proofs.answer_at.Statement.{statement}
 use Rattle.controller.proofs.answer_at.Tie as tie

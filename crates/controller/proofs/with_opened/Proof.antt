@@ -1,15 +1,9 @@
 -- `with_opened`: the log and the buffer, and then its lines. Assumes nothing.
 use borrow.Author.Needs.{needs}
 use mathlib.Core.Path.{refl}
-use Rattle.controller.proofs.Cases.{log-fits, heard-by}
+use Rattle.controller.proofs.Cases.{log-fits, heard-by, heard-so}
 use Rattle.controller.proofs.with_opened.Statement.{statement}
 use Rattle.controller.proofs.with_opened.Tie as tie
-
-follow-log-requires : tie.Need-follow-log-requires
-follow-log-requires c κs =
-    let told = c .before .before .before in
-    let start = told .before .before .before .before .before in
-    (start .pre .0, start .pre .1, log-fits _ _ _ (told .check-log .ensures) (c .before .enum-told .given .1))
 
 returns : tie.Need-returns
 returns c =
@@ -21,8 +15,10 @@ returns-2 : tie.Need-returns-2
 returns-2 c =
     let told = c .before .before .before .before .before .before in
     let a = told .before .before .before .before .before .args in
-    heard-by (a .opened) (a .log .now) (told .check-log .ensures) (c .before .before .before .before .enum-told .given .1) (c .before .before .follow-log .ensures)
+    let ok = c .before .before .before .before .enum-told .given .1 in
+    let end = c .before .before .follow-log .ensures in
+    heard-by (a .opened) (a .log .now) (told .check-log .ensures) ok (heard-so (a .opened) (a .log .now) (log-fits _ _ _ (told .check-log .ensures) ok) (end .0) (end .1))
 
 pub with-opened-spec : {M : Type 1} → statement M
 with-opened-spec =
-    tie.close (tie.spec (λ c κs. search needs) (λ c. search needs) (λ c. search needs) follow-log-requires returns (λ c. search needs) returns-2)
+    tie.close (tie.spec (λ c κs. search needs) (λ c. search needs) (λ c. search needs) (λ c κs. search needs) returns (λ c. search needs) returns-2)

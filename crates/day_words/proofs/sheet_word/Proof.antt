@@ -1,5 +1,4 @@
 -- `sheet_word`: each return computes by the tests that led to it. Assumes nothing.
-use native.Mathlib.Omega.{arith}
 use mathlib.Core.Path.{_∙_}
 use borrow.Author.Tests.{lt-ltb, le-ltb, eq-eqb, ne-eqb}
 use borrow.Author.Needs.{needs}
@@ -21,7 +20,7 @@ returns-3 c = simp (ne-eqb _ _ (c .before .before .before .before .if1 .left), l
 
 returns-4 : tie.Need-returns-4
 unfolding sheetWord
-returns-4 c = simp (ne-eqb _ _ (c .before .before .before .before .before .before .before .if1 .left), le-ltb _ _ (c .before .before .before .before .before .if2 .left), le-ltb _ _ (c .before .before .before .before .if3 .left), lt-ltb _ _ (c .before .before .before .if4 .taken)) (c .wide .ensures ∙ c .before .number .ensures)
+returns-4 c = simp (ne-eqb _ _ (c .before .before .before .before .before .before .before .if1 .left), le-ltb _ _ (c .before .before .before .before .before .if2 .left), le-ltb _ _ (c .before .before .before .before .if3 .left), lt-ltb _ _ (c .before .before .before .if4 .taken)) (c .of-byte .ensures .0 ∙ c .before .number .ensures)
 
 returns-5 : tie.Need-returns-5
 unfolding sheetWord

@@ -1,6 +1,5 @@
 -- `verdict_of`: by the tests. Assumes nothing.
 use borrow.Author.Tests.{eq-eqb, ne-eqb}
-use borrow.Author.Needs.{needs}
 use Rattle.day_words.specs.Words.{verdictOf}
 use Rattle.day_words.proofs.verdict_of.Statement.{statement}
 use Rattle.day_words.proofs.verdict_of.Tie as tie

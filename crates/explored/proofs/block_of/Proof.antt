@@ -1,13 +1,12 @@
 -- `block_of`: the words passed are made, the others still 0.
 use Prim.Native.Nat.{_-_, _≤_, zero-le}
-use mathlib.Core.Path.{_≡_, refl, _∙_}
+use mathlib.Core.Path.{_≡_, refl}
 use native.Mathlib.Omega.{arith}
 use native.Mathlib.Nat.{le-antisymm}
 use borrow.Author.Needs.{needs}
-use Rattle.words.specs.Word.{onlyOf}
 use Rattle.words.specs.Below.{filled}
 use Rattle.words.specs.Lists.{filled-turn, filled-all}
-use Rattle.explored.specs.States.{digestTo, wordAt, blockOf}
+use Rattle.explored.specs.States.{wordAt, blockOf}
 use Rattle.explored.proofs.block_of.Statement.{statement}
 use Rattle.explored.proofs.block_of.Tie as tie
 

@@ -1,6 +1,6 @@
 -- `digest`: the words passed are in it.
-use Prim.Native.Nat.{_-_, _^_, _≤_, zero-le}
-use mathlib.Core.Path.{_≡_, refl, _∙_}
+use Prim.Native.Nat.{_-_, _≤_, zero-le}
+use mathlib.Core.Path.{_≡_, refl}
 use native.Mathlib.Omega.{arith}
 use native.Mathlib.Nat.{le-antisymm}
 use native.Mathlib.Numerals.{add-one}

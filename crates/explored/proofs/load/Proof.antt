@@ -1,5 +1,4 @@
 -- `load`: whether an event came, and the two sets, as they stand in the block.
-use mathlib.Core.Path.{_∙_}
 use borrow.Author.Needs.{needs}
 use Rattle.explored.specs.States.{monitor-loaded}
 use Rattle.explored.proofs.load.Statement.{statement}

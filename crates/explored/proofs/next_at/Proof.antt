@@ -1,10 +1,8 @@
 -- `next_at`: by whether an event came and the column is another than the first.
-use mathlib.Core.Path.{_≡_, sym, ap, _∙_}
 use native.Mathlib.Omega.{arith}
 use native.Mathlib.Nat.{mod-lt, mod-le, div-lt-iff-lt-mul}
 use borrow.Author.Needs.{needs}
 use borrow.Author.Tests.{ltb-true}
-use lib.Dec.{ltb}
 use Rattle.words.specs.Truth.{and-says}
 use Rattle.explored.specs.Led.{led-narrowed, led-moved}
 use Rattle.explored.proofs.next_at.Statement.{statement}

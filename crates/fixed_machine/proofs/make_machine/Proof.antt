@@ -1,10 +1,9 @@
 -- `make_machine`: the checks in their order, and then the work.
-use Prim.Native.Nat.{ℕ}
-use mathlib.Core.Path.{_≡_, refl, ap, _∙_}
+use mathlib.Core.Path.{refl, ap, _∙_}
 use borrow.Author.Needs.{needs}
 use Rattle.syntax.proofs.Held.{full}
 use Rattle.live.specs.declared.Prepared.{Prepared}
-use Rattle.checks.specs.Input.{Input, input-accepted}
+use Rattle.checks.specs.Input.{input-accepted}
 use Rattle.checks.proofs.Given.{ready}
 use Rattle.watching.specs.Watching.{live-words}
 use Rattle.fixed_machine.specs.Machined.{outcome-many, outcome-input, outcome-room, outcome-good, outcome-prepared, machined-refused, machined-made}

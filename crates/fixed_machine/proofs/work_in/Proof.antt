@@ -1,5 +1,4 @@
 -- `work_in`: too many states, or a machine; the words end 0 either way.
-use Prim.Native.Nat.{_≤_}
 use mathlib.Core.Path.{_≡_, refl, ap}
 use native.Mathlib.Omega.{arith}
 use lib.ListN.{length}

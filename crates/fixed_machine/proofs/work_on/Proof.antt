@@ -1,5 +1,4 @@
 -- `work_on`: what the rule says, worked out once, and the opening.
-use native.Mathlib.Omega.{arith}
 use borrow.Author.Needs.{needs}
 use Rattle.ways.specs.Ways.{few-ways}
 use Rattle.columns.specs.Columns.{few-columns}

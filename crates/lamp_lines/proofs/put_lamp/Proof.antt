@@ -17,7 +17,7 @@ returns c =
     let a = told .before .before .args in (
       line-put
           (line .lamp-line .ensures .0
-          ∙ ap₂ (λ (v : Verdict) (k : ℕ). lineOf (lampText (a .number) (record { verdict = v; left = k }))) (told .verdict-of .ensures) (line .before .wide .ensures))
+          ∙ ap₂ (λ (v : Verdict) (k : ℕ). lineOf (lampText (a .number) (record { verdict = v; left = k }))) (told .verdict-of .ensures) (line .before .index-of .ensures))
           (put .put-line .ensures .0),
       put .put-line .ensures .1,
     )

@@ -3,7 +3,6 @@ use borrow.Author.Needs.{needs}
 use Prim.Native.Nat.{ℕ, _+_, _*_, _-_, _≤_}
 use mathlib.Core.Path.{_≡_, subst}
 use native.Mathlib.Omega.{arith}
-use lib.ListN.{length}
 use Rattle.report.specs.Line.{Put}
 use Rattle.report.proofs.Puts.{put-length}
 use Rattle.lamp_lines.specs.Lines.{byteLines}

@@ -1,5 +1,4 @@
 -- `verdict_of`: number by number. Assumes nothing.
-use borrow.Author.Needs.{needs}
 use borrow.Author.Tests.{eq-eqb, ne-eqb}
 use mathlib.Core.Path.{refl}
 use Rattle.lamp_lines.proofs.verdict_of.Statement.{statement}

@@ -1,6 +1,5 @@
 -- `log::read_lead`. A number with its key and a space, or nothing.
 use native.Mathlib.Omega.{arith}
-use Rattle.text.specs.Read.{hex-room}
 use Rattle.log.specs.Lead.{number-took, none-took}
 use borrow.Author.Needs.{needs}
 use Rattle.log.proofs.read_lead.Statement.{statement}

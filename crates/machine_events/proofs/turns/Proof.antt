@@ -1,11 +1,11 @@
 -- `turns`: event after event as the definition goes (`Gone`). Assumes nothing.
-use Prim.Native.Nat.{ℕ, _-_, _*_, _≤_, _<_, zero-le}
+use Prim.Native.Nat.{_-_, _≤_, _<_, zero-le}
 use mathlib.Core.Path.{_≡_, refl}
 use native.Mathlib.Omega.{arith}
 use native.Mathlib.Nat.{le-antisymm}
 use lib.ListN.{length, length-set}
 use borrow.Author.Needs.{needs}
-use Rattle.machine_events.specs.Turns.{Gone, found-of, starts, goes-on, stops, ends, gone-long}
+use Rattle.machine_events.specs.Turns.{Gone, found-of, starts, goes-on, stops, ends}
 use Rattle.machine_events.proofs.turns.Statement.{statement}
 use Rattle.machine_events.proofs.turns.Tie as tie
 

@@ -1,5 +1,5 @@
 -- `shape_of`: for one, two and three propositions, and any other number.
-use mathlib.Core.Path.{_≡_, refl, _∙_}
+use mathlib.Core.Path.{refl, _∙_}
 use native.Mathlib.Omega.{arith}
 use Rattle.columns.specs.Columns.{countOf}
 use Rattle.machine_lookup.specs.Shape.{rows-8, rows-20, rows-56, shape-right, shape-none}

@@ -1,7 +1,6 @@
 -- `nearest::joining_at`: what is found, and what joins at the valuations left, is what joins. Where no state is beside those found, none does.
 use Prim.Native.Nat.{_^_, _<_}
 use mathlib.Core.Path.{_≡_, sym, ap, _∙_}
-use Prim.Native.Nat as nat
 use native.Mathlib.Omega.{arith}
 use lib.Bits.{bitOr, or-lt, or-zero-r}
 use borrow.Author.Needs.{needs}

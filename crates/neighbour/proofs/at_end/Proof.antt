@@ -12,25 +12,25 @@ use Rattle.neighbour.proofs.at_end.Tie as tie
 -- the events of the log
 module _ (c : tie.Start) where
   abbrev event : ℕ → Event
-  event = eventAt (widthOf (c .args .opened .table .plant .props)) (c .args .log .now)
+  event = eventAt (widthOf (c .args .table .plant .props)) (c .args .log .now)
 
   abbrev lines : ℕ
-  lines = wholeLines (widthOf (c .args .opened .table .plant .props)) (c .args .log .now)
+  lines = wholeLines (widthOf (c .args .table .plant .props)) (c .args .log .now)
 
 returns : tie.Need-returns
 returns c =
     let told = c .before .before .before .before in
     let start = told .before .before .before .before in
-    let o = start .args .opened in
-    refused-by (o .table .plant) (fairIn (o .table)) (labelIn (o .table)) (nextIn (o .table)) (o .rule) (event start) (lines start) (start .args .last) (start .args .report)
+    let t = start .args .table in
+    refused-by (t .plant) (fairIn t) (labelIn t) (nextIn t) (start .args .rule) (event start) (lines start) (start .args .last) (start .args .report)
     (told .check-report .ensures) (c .before .outcome .given .1)
 
 returns-2 : tie.Need-returns-2
 returns-2 c =
     let told = c .before .before .before .before in
     let start = told .before .before .before .before in
-    let o = start .args .opened in
-    judged-by (o .table .plant) (fairIn (o .table)) (labelIn (o .table)) (nextIn (o .table)) (o .rule) (event start) (lines start) (start .args .last) (start .args .report)
+    let t = start .args .table in
+    judged-by (t .plant) (fairIn t) (labelIn t) (nextIn t) (start .args .rule) (event start) (lines start) (start .args .last) (start .args .report)
     (told .check-report .ensures) (c .before .enum-told .given .1) (c .before .before .before .lamp .ensures) (c .with-verdict .ensures)
 
 pub at-end-spec : {M : Type 1} → statement M

@@ -22,7 +22,7 @@ loop-holds c = (zero-le, refl)
 
 loop-again : tie.Need-loop-again Inv-loop μ-loop
 unfolding packBelow
-loop-again c = (omega arith, rw add-one (ap₂ (λ (a b : ℕ). a % 72057594037927936 * 256 + b) (c .before .before .loop .inv .1) (c .wide .ensures .0)))
+loop-again c = (omega arith, rw add-one (ap₂ (λ (a b : ℕ). a % 72057594037927936 * 256 + b) (c .before .before .loop .inv .1) (c .of-byte .ensures .0)))
 
 returns : tie.Need-returns Inv-loop μ-loop
 unfolding packedAt

@@ -1,7 +1,6 @@
 -- `radio_in`: field by field. Assumes nothing.
 use borrow.Author.Needs.{needs}
 use mathlib.Core.Path.{refl}
-use Rattle.pairs.specs.declared.Pairs.{Pairs}
 use Rattle.radio_words.specs.Words.{radioIn}
 use Rattle.radio_words.proofs.radio_in.Statement.{statement}
 use Rattle.radio_words.proofs.radio_in.Tie as tie

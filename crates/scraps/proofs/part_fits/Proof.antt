@@ -1,5 +1,4 @@
 -- `part_fits`: few bytes, not too far on, that begin a line. Assumes nothing.
-use borrow.Author.Needs.{needs}
 use native.Mathlib.Omega.{arith}
 use Rattle.scraps.specs.Laws.{part-test, part-none}
 use Rattle.scraps.proofs.part_fits.Statement.{statement}

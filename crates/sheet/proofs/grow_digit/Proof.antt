@@ -22,4 +22,4 @@ grow-digit-spec =
     (λ c κs. search needs)
     (λ c. let d = c .before .before .before in
     let z = sym (d .lead-zero .ensures) ∙ c .before .before .if4 .left in
-    simp (le-ltb _ _ (d .before .before .before .if1 .left), le-ltb _ _ (d .before .before .if2 .left), le-ltb _ _ (d .before .if3 .left), z, ← c .before .wide .ensures) (c .range .ensures)))
+    simp (le-ltb _ _ (d .before .before .before .if1 .left), le-ltb _ _ (d .before .before .if2 .left), le-ltb _ _ (d .before .if3 .left), z, ← c .before .index-of .ensures) (c .range .ensures)))

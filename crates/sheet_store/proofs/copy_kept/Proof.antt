@@ -1,10 +1,10 @@
 -- `sheet_store::copy_kept` meets its contract. The loop's invariant: the bytes before i are copied, and the others stay. Assumes nothing.
-use Prim.Native.Nat.{_≤_, _+_, _-_}
+use Prim.Native.Nat.{_≤_, _-_}
 use mathlib.Core.Path.{_≡_, refl, sym, ap, ap₂, _∙_}
 use native.Mathlib.Omega.{arith}
 use borrow.Author.Needs.{needs}
 use borrow.Author.Tests.{lt-ltb, le-ltb}
-use lib.ListN.{length, take, getD, set, length-set}
+use lib.ListN.{length, take, set, length-set}
 use lib.Seq.{length-take-le, getD-take, take-all}
 use Rattle.words.specs.Over.{over}
 use Rattle.sheet_store.specs.Laws.{over-turn}

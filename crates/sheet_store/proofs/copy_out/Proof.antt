@@ -1,5 +1,4 @@
 -- `sheet_store::copy_out` meets its contract: each return computes by the tests that led to it. Assumes nothing.
-use Prim.Native.Nat.{_≤_}
 use mathlib.Core.Path.{refl, sym, _∙_}
 use borrow.Author.Needs.{needs}
 use native.Mathlib.Omega.{arith}

@@ -1,10 +1,10 @@
 -- `sheet_store::overfull` meets its contract. The loop's invariant: from i on, the search for a sheet that is too long gives what it gives from the start. Assumes nothing.
-use Prim.Native.Nat.{_≤_, _<_, _+_, _-_}
-use mathlib.Core.Path.{_≡_, refl, sym, ap, subst, _∙_}
+use Prim.Native.Nat.{_≤_, _-_}
+use mathlib.Core.Path.{_≡_, refl, sym, _∙_}
 use native.Mathlib.Omega.{arith}
 use borrow.Author.Needs.{needs}
 use borrow.Author.Tests.{lt-ltb, le-ltb}
-use lib.ListN.{length, take, drop, getD}
+use lib.ListN.{length, take, drop}
 use lib.Seq.{length-take-le, getD-take}
 use Rattle.sheet_store.specs.Store.{blank, someLong, overfullOf}
 use Rattle.sheet_store.specs.Laws.{long-here, long-on, long-end}

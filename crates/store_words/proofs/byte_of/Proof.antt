@@ -1,7 +1,5 @@
 -- `store_words::byte_of` meets its contract. The loop's invariant: the byte that is left to find is the one that is asked for. Assumes nothing.
-use Prim.Native.Nat.{ℕ}
 use mathlib.Core.Path.{_≡_, refl, _∙_}
-use native.Mathlib.Omega.{arith}
 use borrow.Author.Needs.{needs}
 use Rattle.store_words.specs.Words.{byteOf}
 use Rattle.store_words.specs.Laws.{byte-turn, byte-last}

@@ -1,10 +1,10 @@
 -- `store_words::kept_at` meets its contract. The loop's invariant: the bytes before j are the sheet's, the others 0. Assumes nothing.
 use Prim.Native.Nat.{_≤_, _<_, _-_}
-use mathlib.Core.Path.{_≡_, refl, sym, ap, _∙_}
+use mathlib.Core.Path.{_≡_, ap, _∙_}
 use native.Mathlib.Omega.{arith}
 use native.Mathlib.Nat.{le-antisymm}
 use borrow.Author.Needs.{needs}
-use lib.ListN.{length, getD, length-set}
+use lib.ListN.{length, length-set}
 use Rattle.words.specs.Below.{filled}
 use Rattle.words.specs.Lists.{filled-none, filled-turn, filled-all, length-filled}
 use Rattle.sheet_store.specs.Store.{keptAs}

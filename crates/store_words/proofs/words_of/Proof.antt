@@ -1,10 +1,10 @@
 -- `store_words::words_of` meets its contract. The loop's invariant: the words before p are the store's, the others 0. Assumes nothing.
 use Prim.Native.Nat.{_≤_, _-_}
-use mathlib.Core.Path.{_≡_, refl, sym, ap, _∙_}
+use mathlib.Core.Path.{_≡_, ap, _∙_}
 use native.Mathlib.Omega.{arith}
 use native.Mathlib.Nat.{le-antisymm}
 use borrow.Author.Needs.{needs}
-use lib.ListN.{length, length-set, length-replicate}
+use lib.ListN.{length, length-set}
 use Rattle.words.specs.Below.{filled}
 use Rattle.words.specs.Lists.{filled-none, filled-turn, filled-all, length-filled}
 use Rattle.store_words.specs.Words.{wordOf, wordsOf}

@@ -2,7 +2,6 @@
 -- Assumes nothing.
 use borrow.Author.Needs.{needs}
 use Prim.Native.Nat.{_-_, _≤_}
-use native.Mathlib.Omega.{arith}
 use Rattle.timing.proofs.digest.Statement.{statement}
 use Rattle.timing.proofs.digest.Tie as tie
 

@@ -1,7 +1,5 @@
 -- `with_rule`: the form of the log, and then its lamps. Assumes nothing.
 use borrow.Author.Needs.{needs}
-use mathlib.Core.List.{List}
-use Prim.Native.Nat.{ℕ}
 use Rattle.answers.specs.declared.Outcome.{Outcome}
 use Rattle.transcript.specs.Said.{playedText, fileOf, bytesOf}
 use Rattle.transcript.proofs.Cases.{refused-said, accepted-said, log-there}

@@ -1,7 +1,6 @@
 -- `writing::put_text` meets its contract: the tail is lent on to `bytes::copy`, and comes back (`copied`).
 -- Assumes nothing.
 use borrow.Author.Needs.{needs}
-use native.Mathlib.Omega.{arith}
 use Rattle.writing.specs.Put.{copied}
 use Rattle.writing.proofs.put_text.Statement.{statement}
 use Rattle.writing.proofs.put_text.Tie as tie

@@ -1,5 +1,5 @@
 -- `lent::take_lent`: both sets moved, or split anew, or all that came is stored. Assumes nothing.
-use mathlib.Core.Path.{_≡_, sym, _∙_}
+use mathlib.Core.Path.{sym, _∙_}
 use borrow.Author.Needs.{needs}
 use borrow.Author.Tests.{eqb-true}
 use Rattle.words.specs.Truth.{and-says}

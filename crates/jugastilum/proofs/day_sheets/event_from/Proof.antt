@@ -1,7 +1,6 @@
 -- `day_sheets::event_from`: by whether it has a number.
 use mathlib.Core.Path.{refl}
 use borrow.Author.Tests.{eq-eqb, ne-eqb}
-use borrow.Author.Needs.{needs}
 use Rattle.jugastilum.proofs.day_sheets.event_from.Statement.{statement}
 use Rattle.jugastilum.proofs.day_sheets.event_from.Tie as tie
 

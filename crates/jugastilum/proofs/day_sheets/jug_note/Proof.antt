@@ -1,6 +1,5 @@
 -- `day_sheets::jug_note`: by what the calls ensure.
 use mathlib.Core.Path.{_∙_, ap}
-use Rattle.log.specs.declared.Event.{Event}
 use Rattle.told.specs.Told.{shownAs}
 use borrow.Author.Needs.{needs}
 use Rattle.jugastilum.proofs.day_sheets.jug_note.Statement.{statement}

@@ -1,5 +1,4 @@
 -- `sent::is_long`: by the stem, and then by what it leaves.
-use borrow.Author.Needs.{needs}
 use Prim.Native.Nat.{_+_}
 use mathlib.Core.Path.{sym}
 use native.Mathlib.Omega.{arith}

@@ -1,5 +1,4 @@
 -- `sent::needs`: by the kind.
-use borrow.Author.Needs.{needs}
 use mathlib.Core.Path.{refl}
 use Rattle.neighbour.specs.Report.{needsOf}
 use Rattle.neighbour.proofs.sent.needs.Statement.{statement}

@@ -6,7 +6,6 @@ use Rattle.answers.specs.declared.Outcome.the-variants.{Refused}
 use Rattle.plant.specs.Read.{noTable}
 use Rattle.syntax.specs.declared.Rule.{Rule}
 use Rattle.monitor.specs.Calls.{noMonitor}
-use Rattle.opened.specs.declared.Opened.{Opened}
 use Rattle.opened.proofs.Opened.refused.Statement.{statement}
 use Rattle.opened.proofs.Opened.refused.Tie as tie
 

@@ -2,8 +2,8 @@
 use mathlib.Core.List.{_++_}
 use lib.ListN.{length}
 use Rattle.text.specs.Slot.{word}
-use Rattle.text.specs.Number.{hexSlots, countSlots}
-use Rattle.plant.specs.Text.{lf, propsKey, statesKey, startKey, justKey}
+use Rattle.text.specs.Number.{hexSlots}
+use Rattle.plant.specs.Text.{lf, startKey}
 use Rattle.plant_writer.specs.Pieces.{keyed, puts-slots, word-fits, rest-fits, propsLine, statesLine, startLine, justLine, one-fits, two-fit, three-fit}
 use borrow.Author.Needs.{needs}
 use Rattle.plant_writer.proofs.lines.put_head.Statement.{statement}

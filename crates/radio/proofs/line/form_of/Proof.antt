@@ -1,6 +1,6 @@
 -- `form_of`: by the first byte. Assumes nothing.
 use borrow.Author.Needs.{needs}
-use mathlib.Core.Path.{_≡_, refl}
+use mathlib.Core.Path.{refl}
 use Rattle.log.specs.Read.{isNumbered}
 use borrow.Author.Tests.{eq-eqb, ne-eqb}
 use Rattle.radio.proofs.line.form_of.Statement.{statement}

@@ -12,7 +12,7 @@ pub put-state-spec : {M : Type 1} → statement M
 put-state-spec =
     tie.close
     (tie.spec
-    -- wide-requires
+    -- of-byte-requires
     (λ c κs. search needs)
     -- put-decimal-requires
     (λ c κs. search needs)
@@ -22,13 +22,13 @@ put-state-spec =
     (λ c.
     let put = c .before .before in
     let start = put .before .before .before .before .before in
-    let text = rw (put .before .wide .ensures) at (put .put-decimal .ensures .0) in
+    let text = rw (put .before .of-byte .ensures .0) at (put .put-decimal .ensures .0) in
     rw (put .before .before .before .if1 .taken) (text, omega (arith, text .len, short-state true (start .args .state) (start .fits .state .fits))))
     -- slice-aggregate-put-text
     (λ c. search needs)
     -- put-text-requires
     (λ c κs. search needs)
-    -- wide-requires-2
+    -- of-byte-requires-2
     (λ c κs. search needs)
     -- put-decimal-requires-2
     (λ c κs. search needs)
@@ -39,5 +39,5 @@ put-state-spec =
     let put = c .before .before in
     let first = put .before .before .before .before .before in
     let start = first .before .before .before .before .before in
-    let text = puts (first .put-text .ensures) (rw (put .before .wide2 .ensures) at (put .put-decimal2 .ensures .0)) in
+    let text = puts (first .put-text .ensures) (rw (put .before .of-byte2 .ensures .0) at (put .put-decimal2 .ensures .0)) in
     rw (first .before .before .before .if1 .left) (text, omega (arith, text .len, short-state false (start .args .state) (start .fits .state .fits)))))

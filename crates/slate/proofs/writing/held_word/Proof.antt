@@ -16,5 +16,5 @@ held-word-spec =
     (λ c. search needs) (λ c. search needs)
     (λ c. simp (le-ltb _ _ (c .before .before .before .before .if1 .left), le-ltb _ _ (c .before .before .before .if2 .left), lt-ltb _ _ (c .before .before .if3 .taken)))
     (λ c κs. search needs)
-    (λ c. simp (le-ltb _ _ (c .before .before .before .before .before .if1 .left), le-ltb _ _ (c .before .before .before .before .if2 .left), le-ltb _ _ (c .before .before .before .if3 .left), lt-ltb _ _ (c .before .before .if4 .taken)) (c .monitor-word .ensures))
+    (λ c. simp (le-ltb _ _ (c .before .before .before .before .before .before .before .before .before .before .before .if1 .left), le-ltb _ _ (c .before .before .before .before .before .before .before .before .before .before .if2 .left), le-ltb _ _ (c .before .before .before .before .before .before .before .before .before .if3 .left), lt-ltb _ _ (c .before .before .before .before .before .before .before .before .if4 .taken)) (c .monitor-word .ensures))
     (λ c. simp (le-ltb _ _ (c .before .before .before .if1 .left), le-ltb _ _ (c .before .before .if2 .left), le-ltb _ _ (c .before .if3 .left), le-ltb _ _ (c .if4 .left))))

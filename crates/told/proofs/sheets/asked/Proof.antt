@@ -9,4 +9,4 @@ asked-spec =
     tie.close (tie.spec
     (λ c. search needs) (λ c κs. search needs) (λ c. search needs) (λ c κs. search needs) (λ c κs. search needs)
     (λ c. rw (c .before .before .answer .given .1) (c .sheet-refused .ensures))
-    (λ c. rw (c .before .before .before .answer2 .given .1, c .before .length-of .ensures, c .wide .ensures) refl))
+    (λ c. rw (c .before .before .before .answer2 .given .1, c .before .length-of .ensures, c .of-byte .ensures .0) refl))

@@ -8,4 +8,4 @@ pub sheet-refused-spec : {M : Type 1} → statement M
 sheet-refused-spec =
     tie.close (tie.spec
     (λ c κs. search needs) (λ c κs. search needs) (λ c κs. search needs)
-    (λ c. rw (c .before .wide .ensures ∙ c .before .before .number .ensures, c .wide2 .ensures) refl))
+    (λ c. rw (c .before .of-byte .ensures .0 ∙ c .before .before .number .ensures, c .of-byte2 .ensures .0) refl))

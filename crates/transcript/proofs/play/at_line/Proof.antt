@@ -1,5 +1,5 @@
 -- `at_line`: a refusal is placed. Assumes nothing.
-use mathlib.Core.Path.{ap, _∙_}
+use mathlib.Core.Path.{ap}
 use borrow.Author.Needs.{needs}
 use Rattle.answers.specs.declared.Outcome.the-variants.{Refused}
 use Rattle.transcript.proofs.play.at_line.Statement.{statement}

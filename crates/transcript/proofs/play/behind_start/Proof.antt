@@ -6,8 +6,7 @@ use native.Mathlib.Omega.{arith}
 use mathlib.Core.List.{List}
 use lib.ListN.{length, replicate, length-replicate}
 use Rattle.text.specs.Number.{widthOf, width-between}
-use Rattle.log.specs.Line.{lineBytes}
-use Rattle.log.specs.Read.{isNumbered, bytesIn, eventAt, wholeLines}
+use Rattle.log.specs.Read.{bytesIn, eventAt, wholeLines}
 use Rattle.course.specs.Lamps.{Counted, counted}
 use Rattle.course.specs.Course.{courseOf}
 use Rattle.transcript.proofs.Cases.{done-few, line-inside, verdicts-long, lefts-long, numbers-long, course-said}
