@@ -1,15 +1,14 @@
 -- From texts to a closing verdict: the texts are opened, the course of the log shows the last verdict, and going back over the lines what is presumed. Here are the two claims of DayEnd
 -- proved.
-use Prim.Native.Nat.{ℕ, _≤_, _<_}
+use Prim.Native.Nat.{ℕ, _<_}
 use native.Mathlib.Omega.{arith}
-use native.Mathlib.Nat.{div-le-self}
 use mathlib.Core.Path.{_≡_, refl, sym, ap, ap₂, subst}
 use mathlib.Core.Logic.{_⊎_, inl, inr}
 use mathlib.Core.Bool.{Bool, true, false, cond}
 use mathlib.Core.List.{List}
-use lib.Dec.{eqb, leb}
+use lib.Dec.{eqb}
 use lib.ListN.{length, getD}
-use borrow.Author.Tests.{eqb-true, eqb-false, le-leb}
+use borrow.Author.Tests.{eqb-true, eqb-false}
 use Rattle.meaning.specs.Formula.{Formula}
 use Rattle.meaning.specs.Run as run
 use Rattle.meaning.specs.Event.{since}
@@ -17,34 +16,29 @@ use Rattle.meaning.specs.Limits.{AcceptedTable}
 use Rattle.text.specs.Number.{widthOf, width-between}
 use Rattle.answers.specs.declared.Verdict.{Verdict}
 use Rattle.answers.specs.declared.Verdict.the-variants as Verdicts
-use Rattle.answers.specs.declared.Kind.the-variants.{ClosingEdition, Room}
+use Rattle.answers.specs.declared.Kind.the-variants.{ClosingEdition}
 use Rattle.answers.specs.declared.Refusal.{Refusal}
-use Rattle.answers.specs.declared.Outcome.{Outcome}
-use Rattle.answers.specs.declared.Outcome.the-variants as Outcomes
 use Rattle.answers.specs.Paper.{numberOf, refusedAt}
-use Rattle.answers.specs.Chain.{andThen, unless}
 use Rattle.plant.specs.Read.{countsIn}
 use Rattle.syntax.specs.Value.{ruleOf}
 use Rattle.syntax.proofs.Printed.{below-more}
 use Rattle.log.specs.declared.Event.{Event}
-use Rattle.log.specs.declared.LogRead.{LogRead}
 use Rattle.log.specs.Log.{nothing}
-use Rattle.log.specs.Read.{bytesIn, logRead, eventAt, wholeLines}
-use Rattle.log.specs.Promises.{accepted-text}
-use Rattle.log.specs.Forms.{lines-many}
+use Rattle.log.specs.Read.{bytesIn, eventAt, wholeLines}
 use Rattle.sides.specs.declared.Monitor.{Monitor}
 use Rattle.sides.specs.Held.{modelOf, lampIn}
 use Rattle.watching.specs.Filled.{filled}
 use Rattle.course.specs.Course.{Course}
 use Rattle.opened.specs.declared.Opened.{Opened}
-use Rattle.opened.specs.Opened.{openedOf}
 use Rattle.controller.specs.declared.LogEnd.{LogEnd}
-use Rattle.controller.specs.Whole.{logChecked, courseFrom, heardBy, heardIn, heardOf, endIn, endOf}
+use Rattle.controller.specs.declared.LogAnswer.{LogAnswer}
+use Rattle.controller.specs.declared.LogAnswer.the-variants as Logs
+use Rattle.controller.specs.Whole.{heardBy, endOf}
 use Rattle.transcript.specs.Said.{bytes}
 use Rattle.front_door.specs.FrontDoor.{SaysTable, SaysLog, TakenAt, lineOf}
 use Rattle.front_door.specs.WholeLog.{VerdictAfter, SaysBare}
 use Rattle.front_door.specs.FromLog.{input, start, course, taken, all-gone}
-use Rattle.front_door.specs.AtEnd.{end-is, last, verdict-right}
+use Rattle.front_door.specs.AtEnd.{same-answer, end-is, last, verdict-right}
 use Rattle.front_door.specs.Lamps.{Gone, all-taken, stopped, Stop, illegal, stray}
 use Rattle.closing.specs.declared.ClosingVerdict.{ClosingVerdict}
 use Rattle.closing.specs.declared.Closed.{Closed}
@@ -134,13 +128,7 @@ day-end-right table rule log edition t f es table-says accepted rule-says log-sa
 
 -- ---- any texts
 
-module _ (o : Opened) (log : List ℕ) (room edition : ℕ) where
-  abbrev width : ℕ
-  width = widthOf (o .table .plant .props)
-
-  abbrev read : LogRead
-  read = logRead width log
-
+module _ (log : List ℕ) (edition : ℕ) (e : LogEnd) where
   -- behind the events: a closing verdict, or 21
   answered : (v : Verdict) (k : ClosingVerdict) → (a b : Bool)
       → ((x : ClosingVerdict) × (cond a (At (ofVerdict v)) (cond b (At (secondOf v k)) (Refused (refusedAt ClosingEdition 0))) ≡ At x))
@@ -149,32 +137,19 @@ module _ (o : Opened) (log : List ℕ) (room edition : ℕ) where
   answered v k false true = inl (secondOf v k, refl)
   answered v k false false = inr refl
 
-  by-course : (x : Outcome) → courseFrom o log .went .outcome ≡ x → Likewise (heardIn Outcomes.Accepted o log .answer) (closedEnd (endIn Outcomes.Accepted o log) log edition)
+  abbrev width : ℕ
+  width = widthOf (e .table .plant .props)
+
+  likewise : Likewise (e .answer) (closedEnd e log edition)
   unfolding closedAt
-  by-course Outcomes.Accepted e = rw e (answered (lampIn (modelOf (courseFrom o log .went .monitor)) .verdict) (presumedOf (o .rule) (eventAt width log) (wholeLines width log)) (eqb edition 1) (eqb edition 2))
-  by-course (Outcomes.Refused r) e = rw e refl
-
-  by-log : (x : Outcome) → (x ≡ Outcomes.Accepted → leb (read .lines) room ≡ true)
-      → Likewise (heardIn (andThen x (unless (leb (read .lines) room) Room)) o log .answer) (closedEnd (endIn x o log) log edition)
-  by-log Outcomes.Accepted h = rw (h refl) (by-course (courseFrom o log .went .outcome) refl)
-  by-log (Outcomes.Refused r) h = refl
-
-  by-opened : (x : Outcome) → (read .outcome ≡ Outcomes.Accepted → leb (read .lines) room ≡ true)
-      → Likewise (heardIn (andThen x (logChecked (o .table .plant .props) log room)) o log .answer) (closedEnd (endIn (andThen x (read .outcome)) o log) log edition)
-  unfolding logChecked
-  by-opened Outcomes.Accepted h = by-log (read .outcome) h
-  by-opened (Outcomes.Refused r) h = refl
-
--- a log has no more lines than bytes
-few-lines : (width : ℕ) (log : List ℕ) → logRead width log .outcome ≡ Outcomes.Accepted → logRead width log .lines ≤ length log
-few-lines width log ok =
-    let (es, fine, small, lines, at) = accepted-text width log ok in
-    omega (arith, lines, lines-many width es log fine small .0, div-le-self (length log) (bytesIn width log))
+  likewise = by (e .answer)
+    where
+      by : (a : LogAnswer) → Likewise a (unlessStopped a (closedAt (e .rule) (eventAt width log) (wholeLines width log) (e .last) edition))
+      by (Logs.Watched n) = answered (lampIn (modelOf (e .last)) .verdict) (presumedOf (e .rule) (eventAt width log) (wholeLines width log)) (eqb edition 1) (eqb edition 2)
+      by (Logs.Stopped s) = refl
+      by (Logs.Refused r) = refl
 
 -- ANY TEXTS ARE REFUSED AS A WHOLE LOG IS
 pub as-watched : AsWatched
-unfolding heardOf closedOf endOf
-as-watched table rule log before edition room =
-    let o = openedOf table rule in
-    by-opened o log (length before) edition (o .outcome)
-    (λ ok. le-leb _ (length before) (omega (arith, few-lines (widthOf (o .table .plant .props)) log ok, room)))
+unfolding closedOf
+as-watched table rule log before edition room = rw (same-answer table rule log (length before) room) (likewise log edition (endOf table rule log))

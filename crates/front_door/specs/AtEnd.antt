@@ -1,20 +1,31 @@
--- What stands behind a log, for the calls that judge it there: the end is that of the log's course, and behind events that are all accepted the verdict there is right.
-use Prim.Native.Nat.{ℕ, _<_}
+-- What stands behind a log, for the calls that judge it there: any texts are answered as a whole log is, the end is that of the log's course, and behind events that are all accepted
+-- the verdict there is right.
+use Prim.Native.Nat.{ℕ, _≤_, _<_}
 use native.Mathlib.Omega.{arith}
-use mathlib.Core.Path.{_≡_, sym, ap, subst, _∙_}
+use native.Mathlib.Nat.{div-le-self}
+use mathlib.Core.Path.{_≡_, refl, sym, ap, subst, _∙_}
+use mathlib.Core.Bool.{true}
 use mathlib.Core.List.{List}
+use lib.Dec.{leb}
 use lib.ListN.{length, take}
 use lib.Seq.{take-length}
+use borrow.Author.Tests.{le-leb}
 use Rattle.meaning.specs.Formula.{Formula}
 use Rattle.meaning.specs.Run as run
 use Rattle.meaning.specs.Limits.{AcceptedTable}
 use Rattle.text.specs.Number.{widthOf}
 use Rattle.answers.specs.declared.Lamp.{Lamp}
+use Rattle.answers.specs.declared.Kind.the-variants.{Room}
+use Rattle.answers.specs.declared.Outcome.{Outcome}
+use Rattle.answers.specs.declared.Outcome.the-variants.{Accepted, Refused}
+use Rattle.answers.specs.Chain.{andThen, unless}
 use Rattle.plant.specs.Read.{countsIn}
 use Rattle.syntax.specs.Value.{ruleOf}
 use Rattle.log.specs.declared.Event.{Event}
 use Rattle.log.specs.declared.LogRead.{LogRead}
 use Rattle.log.specs.Read.{bytesIn, logRead}
+use Rattle.log.specs.Promises.{accepted-text}
+use Rattle.log.specs.Forms.{lines-many}
 use Rattle.checks.specs.Input.{formula-is}
 use Rattle.sides.specs.declared.Monitor.{Monitor}
 use Rattle.sides.specs.Held.{modelOf, lampIn}
@@ -22,7 +33,8 @@ use Rattle.monitor.specs.declared.Watched.{Watched}
 use Rattle.watching.specs.Watching as watching
 use Rattle.watching.specs.Watching.{after-model}
 use Rattle.opened.specs.declared.Opened.{Opened}
-use Rattle.controller.specs.Whole.{endBy, endIn, endFrom, endOf}
+use Rattle.opened.specs.Opened.{openedOf}
+use Rattle.controller.specs.Whole.{logChecked, heardIn, heardOf, endBy, endIn, endFrom, endOf}
 use Rattle.transcript.specs.Said.{bytes}
 use Rattle.front_door.specs.FrontDoor.{SaysTable, SaysLog, TakenAt, RightAfter}
 use Rattle.front_door.specs.WholeLog.{VerdictAfter, SaysBare}
@@ -30,6 +42,37 @@ use Rattle.front_door.specs.FromTexts.{value}
 use Rattle.front_door.specs.FromLog.{input, start, behind-rule, course, course-is, log-read}
 use Rattle.front_door.specs.Lamps.{all-taken-to, behind-taken, watched}
 use Rattle.front_door.specs.OneOutput.{lit-right}
+
+-- ---- any texts
+
+-- a log has no more lines than bytes
+few-lines : (width : ℕ) (log : List ℕ) → logRead width log .outcome ≡ Accepted → logRead width log .lines ≤ length log
+few-lines width log ok =
+    let (es, fine, small, lines, at) = accepted-text width log ok in
+    omega (arith, lines, lines-many width es log fine small .0, div-le-self (length log) (bytesIn width log))
+
+module _ (o : Opened) (log : List ℕ) (room : ℕ) where
+  abbrev read : LogRead
+  read = logRead (widthOf (o .table .plant .props)) log
+
+  by-log : (x : Outcome) → (x ≡ Accepted → leb (read .lines) room ≡ true) → heardIn (andThen x (unless (leb (read .lines) room) Room)) o log .answer ≡ endIn x o log .answer
+  by-log Accepted h = rw (h refl) refl
+  by-log (Refused r) h = refl
+
+  by-opened : (x : Outcome) → (read .outcome ≡ Accepted → leb (read .lines) room ≡ true)
+      → heardIn (andThen x (logChecked (o .table .plant .props) log room)) o log .answer ≡ endIn (andThen x (read .outcome)) o log .answer
+  unfolding logChecked
+  by-opened Accepted h = by-log (read .outcome) h
+  by-opened (Refused r) h = refl
+
+-- where a log ends is answered what `watch_log` answers with a buffer as long as the log
+pub same-answer : (table rule log : List ℕ) (room : ℕ) → length log ≤ room → heardOf table rule log room .answer ≡ endOf table rule log .answer
+unfolding heardOf endOf
+same-answer table rule log room much =
+    let o = openedOf table rule in
+    by-opened o log room (o .outcome) (λ ok. le-leb _ room (omega (arith, few-lines (widthOf (o .table .plant .props)) log ok, much)))
+
+-- ---- texts that say a table, a rule and events
 
 module _ (t : run.Plant) (table : AcceptedTable t) (text : List ℕ) (says : SaysTable (bytes text) t) (rule : List ℕ) (f : Formula) (rule-says : SaysBare rule (t .props) f) where
   -- by the form of the log

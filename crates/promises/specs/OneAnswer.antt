@@ -45,6 +45,7 @@ use Rattle.in_place.proofs.step_in_place as in-place
 use Rattle.course.proofs.follow.Reads as follow
 use Rattle.opened.proofs.open_texts.Reads as open-texts
 use Rattle.controller.proofs.watch_log.Reads as watch-log
+use Rattle.controller.proofs.to_end.Reads as to-end
 use Rattle.transcript.proofs.write_output.Reads as write-output
 use Rattle.witness.proofs.witness as call
 use Rattle.witness.proofs.witness.Reads as witness
@@ -131,6 +132,9 @@ pub watch-log-one :
     (κs : _) (x : _) (r r' : _) (u u' : _) → watch-log.Learnt κs x r u → watch-log.Learnt κs x r' u' → (r ≡ r') × (now (u .1 .1 .1 .0) ≡ now (u' .1 .1 .1 .0))
 watch-log-one κs x r r' u u' e e' = (e .0 ∙ sym (e' .0), e .1 ∙ sym (e' .1))
 
+pub to-end-one : (κs : _) (x : _) (r r' : _) (u u' : _) → to-end.Learnt κs x r u → to-end.Learnt κs x r' u' → r ≡ r'
+to-end-one κs x r r' u u' e e' = e ∙ sym e'
+
 -- the program's whole output: how many bytes it has, and the buffer
 pub write-output-one :
     (κs : _) (x : _) (r r' : _) (u u' : _) → write-output.Learnt κs x r u → write-output.Learnt κs x r' u' → (r ≡ r') × (now (u .1 .1 .1 .1 .1 .1 .0) ≡ now (u' .1 .1 .1 .1 .1 .1 .0))
@@ -138,8 +142,8 @@ write-output-one κs x r r' u u' e e' = (e .len ∙ sym (e' .len), e .bytes ∙ 
 
 -- ---- none of the calls asks anything of its arguments: what the kit reads from its `requires` is nothing
 
-pub any-text : ((κs : _) (x : _) → read-table.Asked κs x) × ((κs : _) (x : _) → read-rule.Asked κs x) × ((κs : _) (x : _) → read-log.Asked κs x) × ((κs : _) (x : _) → event-at.Asked κs x) × ((κs : _) (x : _) → line-bytes.Asked κs x) × ((κs : _) (x : _) → open-texts.Asked κs x) × ((κs : _) (x : _) → watch-log.Asked κs x)
-any-text = (λ κs x. tt, λ κs x. tt, λ κs x. tt, λ κs x. tt, λ κs x. tt, λ κs x. tt, λ κs x. tt)
+pub any-text : ((κs : _) (x : _) → read-table.Asked κs x) × ((κs : _) (x : _) → read-rule.Asked κs x) × ((κs : _) (x : _) → read-log.Asked κs x) × ((κs : _) (x : _) → event-at.Asked κs x) × ((κs : _) (x : _) → line-bytes.Asked κs x) × ((κs : _) (x : _) → open-texts.Asked κs x) × ((κs : _) (x : _) → watch-log.Asked κs x) × ((κs : _) (x : _) → to-end.Asked κs x)
+any-text = (λ κs x. tt, λ κs x. tt, λ κs x. tt, λ κs x. tt, λ κs x. tt, λ κs x. tt, λ κs x. tt, λ κs x. tt)
 
 pub any-value : ((κs : _) (x : _) → check-table.Asked κs x) × ((κs : _) (x : _) → is-valid.Asked κs x) × ((κs : _) (x : _) → is-legal.Asked κs x) × ((κs : _) (x : _) → print-rule.Asked κs x) × ((κs : _) (x : _) → write-table.Asked κs x)
 any-value = (λ κs x. tt, λ κs x. tt, λ κs x. tt, λ κs x. tt, λ κs x. tt)
