@@ -25,7 +25,7 @@ use Rattle.radio.specs.Kept.{radioOf, heardBy}
 use Rattle.radio.specs.Ending.{all-fine}
 use Rattle.scraps.specs.Calls.{heardAnswer, Took, tookBy, takeOutcome, takeCall, finishCall}
 use Rattle.scraps.specs.Laws.{take-parts, fitting}
-use Rattle.cuttings.specs.Scraps.{Scrap, after, said}
+use Rattle.cuttings.specs.Scraps.{Scrap, radioAfter, said}
 use Rattle.scraps_right.specs.Claims.{fresh}
 use Rattle.scraps_right.specs.Full.{opened-full}
 use Rattle.scraps_right.specs.FromTexts.{scraps-right}
@@ -115,9 +115,9 @@ module _ (table rule : List ℕ) (ok : openedOf table rule .outcome ≡ Accepted
 
   -- scrap after scrap
   all : (ss : List Scrap) (w : List ℕ) (r : Radio) → Keeps w r → Bytes ss
-      → Keeps (boxBehind w ss) (after P (fairIn (o .table)) (labelIn (o .table)) (nextIn (o .table)) (o .rule) (o .live) r ss)
+      → Keeps (boxBehind w ss) (radioAfter P (fairIn (o .table)) (labelIn (o .table)) (nextIn (o .table)) (o .rule) (o .live) r ss)
       × (boxSaid w ss ≡ said P (fairIn (o .table)) (labelIn (o .table)) (nextIn (o .table)) (o .rule) (o .live) r ss)
-  unfolding boxBehind boxSaid after said
+  unfolding boxBehind boxSaid radioAfter said
   all [] w r k small = (k, refl)
   all (s ∷ ss) w r k (b, bs) =
       let (x, y) = all ss (boxTaken w (call r s .taken)) (call r s .taken .radio) (still-keeps w r k s b) bs in

@@ -54,9 +54,9 @@ module _ (p : Plant) (fair label next : List ℕ) (rule : Rule) (live : Pairs) w
   Fine r s = takeOutcome p fair label next rule live r (s .bytes) (s .room) ≡ r .standing
 
   -- each call from what the one before left
-  unfoldable pub after : Radio → List Scrap → Radio
-  after r [] = r
-  after r (s ∷ ss) = after (call r s .taken .radio) ss
+  unfoldable pub radioAfter : Radio → List Scrap → Radio
+  radioAfter r [] = r
+  radioAfter r (s ∷ ss) = radioAfter (call r s .taken .radio) ss
 
   -- the verdicts that they write, one behind the other
   unfoldable pub said : Radio → List Scrap → List ℕ
@@ -84,9 +84,9 @@ module _ (p : Plant) (fair label next : List ℕ) (rule : Rule) (live : Pairs) w
 
   -- ANY LIST OF SCRAPS is the text that they join to
   pub any-cutting : (ss : List Scrap) (r : Radio) (n : ℕ) → Sound w (stepCall p fair label next rule live) n (earOf r) → AllFine r ss
-      → (earOf (after r ss) ≡ hearAll (widthOf (p .props)) (stepCall p fair label next rule live) (heardBy r []) (text ss) .ear)
+      → (earOf (radioAfter r ss) ≡ hearAll (widthOf (p .props)) (stepCall p fair label next rule live) (heardBy r []) (text ss) .ear)
       × (said r ss ≡ hearAll (widthOf (p .props)) (stepCall p fair label next rule live) (heardBy r []) (text ss) .verdicts)
-  unfolding after said text AllFine
+  unfolding radioAfter said text AllFine
   any-cutting [] r n sound fine = (refl, refl)
   any-cutting (s ∷ ss) r n sound (f, fs) =
       let step = stepCall p fair label next rule live in

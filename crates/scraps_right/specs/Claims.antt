@@ -1,6 +1,6 @@
 -- A LOG IN SCRAPS, BESIDE THE WHOLE LOG: what `take` and `finish` (scraps/src) answer and write over all scraps of a log, however it is cut. Promises and
 -- Written prove what is claimed; this page has no proof, so what it takes from other files is what must be believed.
--- `takeCall`, `finishCall` (scraps/specs/Calls) and `heardOf` (controller/specs/Whole) are by the contracts of `take`, `finish` and `watch_log` what these give; `after`, `said` and `text`
+-- `takeCall`, `finishCall` (scraps/specs/Calls) and `heardOf` (controller/specs/Whole) are by the contracts of `take`, `finish` and `watch_log` what these give; `radioAfter`, `said` and `text`
 -- (cuttings/specs/Scraps) are the calls of `take` one after the other, the verdicts that they write, and the bytes joined.
 use Prim.Native.Nat.{ℕ, _/_, _≤_}
 use mathlib.Core.Path.{_≡_}
@@ -33,7 +33,7 @@ use Rattle.controller.specs.Whole.{heardOf}
 use Rattle.radio.specs.declared.Form.the-variants.{Unknown}
 use Rattle.radio.specs.declared.Radio.{Radio}
 use Rattle.scraps.specs.Calls.{longest, linesIn, heardAnswer, Took, takeCall, finishCall}
-use Rattle.cuttings.specs.Scraps.{Scrap, after, said, text}
+use Rattle.cuttings.specs.Scraps.{Scrap, radioAfter, said, text}
 
 -- ---- scraps
 
@@ -79,7 +79,7 @@ module _ (p : Plant) (fair label next : List ℕ) (rule : Rule) (live : Pairs) (
 
   -- the radio behind some scraps, and all verdicts that they wrote
   abbrev pub behind : List Scrap → Radio
-  behind ss = after p fair label next rule live (fresh m) ss
+  behind ss = radioAfter p fair label next rule live (fresh m) ss
 
   abbrev pub written : List Scrap → List ℕ
   written ss = said p fair label next rule live (fresh m) ss

@@ -39,7 +39,7 @@ use Rattle.radio.specs.Turning.{line-few}
 use Rattle.radio.specs.Ending.{all-fine}
 use Rattle.scraps.specs.Calls.{longest, linesIn, partFits, roomOutcome, tookBy, heldOutcome, keptOutcome, takeOutcome, takeCall, finishCall}
 use Rattle.cuttings.specs.Cut.{Sound, sound-all}
-use Rattle.cuttings.specs.Scraps.{Scrap, ear-back, Fine, after, AllFine, text}
+use Rattle.cuttings.specs.Scraps.{Scrap, ear-back, Fine, radioAfter, AllFine, text}
 use Rattle.scraps_right.specs.Claims.{fresh, Roomy}
 use Rattle.scraps_right.specs.Texts.{endOf}
 
@@ -190,12 +190,12 @@ module _ (p : Plant) (fair label next : List ℕ) (rule : Rule) (live : Pairs) w
         go (Refused x) = record { sound = record { keep = good .sound .keep; low = omega (arith, good .sound .low) }; clean = good .clean; held = good .held }
 
     pub all-good : (ss : List Scrap) {n : ℕ} {r : Radio} → Good n r → Roomy ss → n + length (text ss) ≤ longest
-        → AllFine p fair label next rule live r ss × Good (n + length (text ss)) (after p fair label next rule live r ss)
-    unfolding AllFine after text
+        → AllFine p fair label next rule live r ss × Good (n + length (text ss)) (radioAfter p fair label next rule live r ss)
+    unfolding AllFine radioAfter text
     all-good [] {n} {r} good room few = (tt, subst (λ (k : ℕ). Good k r) (omega arith) good)
     all-good (s ∷ ss) {n} {r} good room few =
         let rest = text ss in
         let long = length-append (s .bytes) rest in
         let fine = take-fine good input lives s (omega (arith, long)) (room .0) in
         let (others, last) = all-good ss (next-good good s fine) (room .1) (omega (arith, long)) in
-        ((fine, others), subst (λ (k : ℕ). Good k (after p fair label next rule live (takeCall p fair label next rule live r (s .bytes) (s .room) .taken .radio) ss)) (omega (arith, long)) last)
+        ((fine, others), subst (λ (k : ℕ). Good k (radioAfter p fair label next rule live (takeCall p fair label next rule live r (s .bytes) (s .room) .taken .radio) ss)) (omega (arith, long)) last)

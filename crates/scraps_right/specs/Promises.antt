@@ -30,7 +30,7 @@ use Rattle.radio.specs.Radio as radio
 use Rattle.radio.specs.Radio.{hearAll}
 use Rattle.radio.specs.Kept.{earOf, radioOf, heardBy as heardFrom}
 use Rattle.scraps.specs.Calls.{longest, linesIn, heardAnswer, Took, roomOutcome, keptOutcome, takeOutcome, takeCall, endOutcome, finishCall}
-use Rattle.cuttings.specs.Scraps.{Scrap, Fine, after, said, text, any-cutting}
+use Rattle.cuttings.specs.Scraps.{Scrap, Fine, radioAfter, said, text, any-cutting}
 use Rattle.scraps_right.specs.Claims.{fresh, Roomy, nothingTaken, behind, written, Given, TwoCuttings, EveryCutting, EachScrap, TakesNothing, Sticks}
 use Rattle.scraps_right.specs.Texts.{endOf, text-heard}
 use Rattle.scraps_right.specs.Fine.{exact-fresh, Good, good-fresh, many-kept, kept-fine, take-fine, end-fine, all-good}
@@ -68,17 +68,17 @@ module _ (p : Plant) (fair label next : List ℕ) (rule : Rule) (live : Pairs) w
   abbrev took : Radio → Scrap → Took
   took r s = takeCall p fair label next rule live r (s .bytes) (s .room)
 
-  after-more : (ss : List Scrap) (s : Scrap) (r : Radio) → after p fair label next rule live r (ss ++ s ∷ []) ≡ took (after p fair label next rule live r ss) s .taken .radio
-  unfolding after
+  after-more : (ss : List Scrap) (s : Scrap) (r : Radio) → radioAfter p fair label next rule live r (ss ++ s ∷ []) ≡ took (radioAfter p fair label next rule live r ss) s .taken .radio
+  unfolding radioAfter
   after-more [] s r = refl
   after-more (x ∷ ss) s r = after-more ss s (took r x .taken .radio)
 
-  said-more : (ss : List Scrap) (s : Scrap) (r : Radio) → said p fair label next rule live r (ss ++ s ∷ []) ≡ said p fair label next rule live r ss ++ took (after p fair label next rule live r ss) s .verdicts
-  unfolding after said
+  said-more : (ss : List Scrap) (s : Scrap) (r : Radio) → said p fair label next rule live r (ss ++ s ∷ []) ≡ said p fair label next rule live r ss ++ took (radioAfter p fair label next rule live r ss) s .verdicts
+  unfolding radioAfter said
   said-more [] s r = append-nil (took r s .verdicts)
   said-more (x ∷ ss) s r =
       ap (λ (l : List ℕ). took r x .verdicts ++ l) (said-more ss s (took r x .taken .radio))
-      ∙ sym (append-assoc (took r x .verdicts) (said p fair label next rule live (took r x .taken .radio) ss) (took (after p fair label next rule live (took r x .taken .radio) ss) s .verdicts))
+      ∙ sym (append-assoc (took r x .verdicts) (said p fair label next rule live (took r x .taken .radio) ss) (took (radioAfter p fair label next rule live (took r x .taken .radio) ss) s .verdicts))
 
   -- ---- one call
 

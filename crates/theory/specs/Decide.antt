@@ -31,10 +31,10 @@ truth T L (or a b) i = truth T L a i || truth T L b i
 truth T L (implies a b) i = not (truth T L a i) || truth T L b i
 
 module _ (T : Plant) (L : Lasso) (loops : 0 < length (L .loop)) where
-  abbrev Right : Formula → Type 0
-  Right f = (i : ℕ) → Says (truth T L f i) (Holds (labelsAlong T L) f i)
+  abbrev ToldRight : Formula → Type 0
+  ToldRight f = (i : ℕ) → Says (truth T L f i) (Holds (labelsAlong T L) f i)
 
-  finally-right : (a : Formula) → Right a → Right (finally a)
+  finally-right : (a : Formula) → ToldRight a → ToldRight (finally a)
   unfolding Holds truth
   finally-right a t i = Iff·trans
       (any-says _ _ (λ j. says-and (le-says i j) (t j)) (horizon L i)) (
@@ -42,7 +42,7 @@ module _ (T : Plant) (L : Lasso) (loops : 0 < length (L .loop)) where
         λ (j, le, h). let (k, l, _, u, same) = near T L loops i j le in (k, u, (l, same a .0 h)),
       )
 
-  globally-right : (a : Formula) → Right a → Right (globally a)
+  globally-right : (a : Formula) → ToldRight a → ToldRight (globally a)
   unfolding Holds truth
   globally-right a t i = Iff·trans
       (all-says _ _ (λ j. says-implies (le-says i j) (t j)) (horizon L i)) (
@@ -50,7 +50,7 @@ module _ (T : Plant) (L : Lasso) (loops : 0 < length (L .loop)) where
         λ h j _ le. h j le,
       )
 
-  until-right : (a b : Formula) → Right a → Right b → Right (until a b)
+  until-right : (a b : Formula) → ToldRight a → ToldRight b → ToldRight (until a b)
   unfolding Holds truth
   until-right a b t r i = Iff·trans
       (any-says _ _ (λ j. says-and (le-says i j) (says-and (r j) (all-says _ _ (λ k. says-implies (le-says i k) (t k)) j))) (horizon L i)) (
@@ -58,7 +58,7 @@ module _ (T : Plant) (L : Lasso) (loops : 0 < length (L .loop)) where
         λ (j, le, h, g). let (k, l, d, u, same) = near T L loops i j le in (k, u, (l, (same b .0 h, λ y m l. g y l (omega arith)))),
       )
 
-  release-right : (a b : Formula) → Right a → Right b → Right (release a b)
+  release-right : (a b : Formula) → ToldRight a → ToldRight b → ToldRight (release a b)
   unfolding Holds truth
   release-right a b t r i = Iff·trans
       (all-says _ _ (λ j. says-implies (le-says i j) (says-or (r j) (any-says _ _ (λ k. says-and (le-says i k) (t k)) j))) (horizon L i)) (
@@ -68,7 +68,7 @@ module _ (T : Plant) (L : Lasso) (loops : 0 < length (L .loop)) where
       )
 
   -- it says whether the rule holds
-  pub truth-says : (f : Formula) → Right f
+  pub truth-says : (f : Formula) → ToldRight f
   unfolding Holds truth
   truth-says never i = says-false
   truth-says always i = says-true

@@ -12,7 +12,7 @@ use Rattle.meaning.specs.Step.{value, Value, Part, nextPart, untilPart, release
 use Rattle.theory.specs.Move.{settled}
 use Rattle.theory.specs.Each.{Each, each-append, each-of, each-member, Numbered, every-says}
 use Rattle.theory.specs.Until.{Until, Release, Again, until-says, release-says, finally-until, globally-release}
-use Rattle.theory.specs.Parts.{parts-append, Given, Right, gives-right}
+use Rattle.theory.specs.Parts.{parts-append, Given, RightFrom, gives-right}
 use Rattle.theory.specs.Fit.{value-right}
 use Rattle.words.specs.Truth.{says-itself, says-true, says-false, beq-says}
 
@@ -39,7 +39,7 @@ module _ (w : Word) (v : ℕ → ℕ) where
   release-lasts {k = k} p q h = release-says p q (λ i. bit (v i) k) (λ i. beq-says _ _ .0 (h .fits i)) (h .again)
 
   abbrev Always : Formula → ℕ → Type 0
-  Always f n = (i : ℕ) → Right w f n (v i) i
+  Always f n = (i : ℕ) → RightFrom w f n (v i) i
 
   -- the value of a side whose parts are right
   side : (a : Formula) (n : ℕ) → Always a n → Tells (value a n) (Holds w a)

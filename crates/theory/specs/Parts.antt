@@ -58,11 +58,11 @@ abbrev pub Given : Word → ℕ → ℕ → Formula → ℕ → Type 0
 Given w v i g k = Says (bit v k) (Holds w g i)
 
 -- v gives each part of f, numbered from n, its truth
-abbrev pub Right : Word → Formula → ℕ → ℕ → ℕ → Type 0
-Right w f n v i = Numbered (Given w v i) (temporal f) n
+abbrev pub RightFrom : Word → Formula → ℕ → ℕ → ℕ → Type 0
+RightFrom w f n v i = Numbered (Given w v i) (temporal f) n
 
 -- to give each part its truth, by its number
-pub gives-right : (w : Word) (f : Formula) (v i : ℕ) → Gives w f v i ↔ Right w f 0 v i
+pub gives-right : (w : Word) (f : Formula) (v i : ℕ) → Gives w f v i ↔ RightFrom w f 0 v i
 gives-right w f v i = (
   λ g. numbered-of (Given w v i) never (temporal f) 0 (λ k lt. rw zero-add (g k (rw (← (length-temporal f)) lt))),
   λ r k lt. rw zero-add at (numbered-at (Given w v i) never (temporal f) 0 r k (rw (length-temporal f) lt)),

@@ -15,7 +15,7 @@ use Rattle.meaning.specs.Step.{value, Part, table}
 use Rattle.theory.specs.Move.{settled}
 use Rattle.theory.specs.Each.{Each, each-append, Numbered}
 use Rattle.theory.specs.Until.{Again}
-use Rattle.theory.specs.Parts.{parts-append, Given, Right, gives-right}
+use Rattle.theory.specs.Parts.{parts-append, Given, RightFrom, gives-right}
 use Rattle.theory.specs.Fit.{value-right}
 use Rattle.theory.specs.Decide.{truth-says}
 use Rattle.words.specs.Truth.{says-itself, true-or-false, says-dec, says-not, says-or, says-implies}
@@ -61,7 +61,7 @@ module _ (T : Plant) (L : Lasso) (loops : 0 < length (L .loop)) where
     Settled = Each (λ c. Again (λ i. settled c (w i) (v i)))
 
     abbrev Always : Formula → ℕ → Type 0
-    Always f n = (i : ℕ) → Right w f n (v i) i
+    Always f n = (i : ℕ) → RightFrom w f n (v i) i
 
     both : (a b : Formula) (n : ℕ) → (Always a n → Settled (table a n)) → (Always b (n + parts a) → Settled (table b (n + parts a)))
         → ((i : ℕ) → Numbered (Given w (v i) i) (temporal a ++ temporal b) n) → Settled (table a n ++ table b (n + parts a))
@@ -71,7 +71,7 @@ module _ (T : Plant) (L : Lasso) (loops : 0 < length (L .loop)) where
     )
 
     amid : (f a b : Formula) (n : ℕ) → ((i : ℕ) → Numbered (Given w (v i) i) (temporal a ++ f ∷ temporal b) n)
-        → (i : ℕ) → Right w a n (v i) i × (Given w (v i) i f (n + parts a) × Right w b (suc (n + parts a)) (v i) i)
+        → (i : ℕ) → RightFrom w a n (v i) i × (Given w (v i) i f (n + parts a) × RightFrom w b (suc (n + parts a)) (v i) i)
     amid f a b n g i = parts-append (Given w (v i) i) a (f ∷ temporal b) n .0 (g i)
 
     right-settles : (f : Formula) (n : ℕ) → Always f n → Settled (table f n)
