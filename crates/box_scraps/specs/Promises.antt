@@ -17,6 +17,7 @@ use Rattle.checks.specs.Input.{input-accepted}
 use Rattle.sides.specs.declared.Monitor.{Monitor}
 use Rattle.monitor.specs.Calls.{stepCall}
 use Rattle.opened.specs.declared.Opened.{Opened}
+use Rattle.opened.specs.Fits.{opened-full}
 use Rattle.opened.specs.Opened.{fairIn, labelIn, nextIn, openedOf}
 use Rattle.front_door.specs.FromLog.{behind-rule}
 use Rattle.radio.specs.declared.Radio.{Radio}
@@ -27,7 +28,6 @@ use Rattle.scraps.specs.Calls.{heardAnswer, Took, tookBy, takeOutcome, takeCall
 use Rattle.scraps.specs.Laws.{take-parts, fitting}
 use Rattle.cuttings.specs.Scraps.{Scrap, radioAfter, said}
 use Rattle.scraps_right.specs.Claims.{fresh}
-use Rattle.scraps_right.specs.Full.{opened-full}
 use Rattle.scraps_right.specs.FromTexts.{scraps-right}
 use Rattle.slate.specs.Box.{fitsIn, heldIn, withMonitor}
 use Rattle.slate.specs.Promises.{Sets, changed, monitor-back, counted-fits}
@@ -81,7 +81,7 @@ module _ (table rule : List ℕ) (ok : openedOf table rule .outcome ≡ Accepted
   still-keeps w r k s small = by (takeOutcome P (fairIn (o .table)) (labelIn (o .table)) (nextIn (o .table)) (o .rule) (o .live) r (s .bytes) (s .room)) refl
     where
       full : length (o .rule .nodes) ≡ 32
-      full = opened-full table rule ok
+      full = opened-full table rule
 
       heard : Heard
       heard = hearAll (widthOf (P .props)) (stepCall P (fairIn (o .table)) (labelIn (o .table)) (nextIn (o .table)) (o .rule) (o .live)) (heardBy r []) (s .bytes)

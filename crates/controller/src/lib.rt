@@ -98,7 +98,7 @@ fn with_opened(opened: Opened, log: &[u8], verdicts: &mut [u8]) -> LogAnswer
     }
 }
 
-// What `watch_log` answers where there is a byte for each line, and what stands behind it. Refusals 3, 2; 4 to 8; 12; then an event's 10 or 16, at the offset of its line.
+// What `watch_log` answers with a buffer as long as the log, and what stands behind it. Refusals 3, 2; 4 to 8; 12; then an event's 10 or 16, at the offset of its line.
 pub fn to_end(table: &[u8], rule: &[u8], log: &[u8]) -> LogEnd
     ensures { λ r. ⌜ r ≡ endOf (now (table .entry)) (now (rule .entry)) (now (log .entry)) ⌝ }
 {

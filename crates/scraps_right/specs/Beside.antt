@@ -18,7 +18,7 @@ use Rattle.course.specs.Course.{Course, courseOf, verdictBytes}
 use Rattle.course.specs.Lamps.{counted}
 use Rattle.opened.specs.declared.Opened.{Opened}
 use Rattle.opened.specs.Opened.{fairIn, labelIn, nextIn, openedOf}
-use Rattle.opened.specs.Fits.{opened-fits}
+use Rattle.opened.specs.Fits.{opened-full, opened-fits}
 use Rattle.controller.specs.declared.LogAnswer.{LogAnswer}
 use Rattle.controller.specs.declared.LogAnswer.the-variants.{Refused}
 use Rattle.controller.specs.Whole.{Heard, logChecked, endAt, heardBy, heardIn, heardOf}
@@ -26,7 +26,6 @@ use Rattle.scraps.specs.Calls.{heardAnswer}
 use Rattle.cuttings.specs.Scraps.{Scrap, text}
 use Rattle.scraps_right.specs.Claims.{linesTo, linesOf, placedAt, LineByLine, stopOr, countOf, saidByAll, endOfAll, GivenTexts, AsWholeLog, AsLinesBefore}
 use Rattle.scraps_right.specs.Texts.{lines-read, lines-start}
-use Rattle.scraps_right.specs.Full.{opened-full}
 use Rattle.scraps_right.specs.Promises.{every-cutting}
 
 and-accepted : (o : Outcome) → andThen o Accepted ≡ o
@@ -64,7 +63,7 @@ module _ (table rule : List ℕ) where
   module _ (ss : List Scrap) (g : GivenTexts table rule ss) where
     lines : LineByLine (o .table .plant) (fairIn (o .table)) (labelIn (o .table)) (nextIn (o .table)) (o .rule) (o .live) (o .monitor) ss
     lines = every-cutting (o .table .plant) (fairIn (o .table)) (labelIn (o .table)) (nextIn (o .table)) (o .rule) (o .live) (o .monitor) ss
-        (record { full = opened-full table rule (g .opened); fits = opened-fits table rule (g .opened); roomy = g .roomy; short = g .short })
+        (record { full = opened-full table rule; fits = opened-fits table rule (g .opened); roomy = g .roomy; short = g .short })
 
     -- as many verdicts as events that were taken
     many : length (saidByAll table rule ss) ≡ course (linesOf W (text ss)) .went .done

@@ -4,7 +4,6 @@ pub mod Lines
 pub mod Broken
 pub mod Texts
 pub mod Fine
-pub mod Full
 pub mod Promises
 pub mod Beside
 pub mod Written
