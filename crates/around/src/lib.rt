@@ -13,6 +13,7 @@ use syntax::{Op, Rule};
 use words::wide;
 
 // What a node hands on at position `from`, where its last position is handed `end`.
+#[tactic(auto, using(crate::specs::Turns::handed_last, crate::specs::Turns::handed_back))]
 fn handed(op: Op, labels: &[u16], words: &[u64; 4096], end: bool, from: usize) -> bool
     requires { (from ≤ length labels.now) × (length labels.now ≤ 4096) }
     ensures { result ≡ handed_from op labels.now words.now end (length labels.now - from) from }
@@ -27,6 +28,7 @@ fn handed(op: Op, labels: &[u16], words: &[u64; 4096], end: bool, from: usize) -
 }
 
 // The node's value put on the stack at each position.
+#[tactic(auto, using(crate::specs::Turns::handed_last, crate::specs::Turns::filled_last, crate::specs::Turns::carry_back, crate::specs::Turns::filled_back))]
 fn fill(op: Op, labels: &[u16], end: bool, words: &mut [u64; 4096])
     requires { length labels.now ≤ 4096 }
     ensures { words.new ≡ filled_from op labels.now words.old end (length labels.now) 0 }
@@ -48,6 +50,7 @@ struct Stacks {
 }
 
 // Node by node.
+#[tactic(auto, unfolding(crate::specs::Fill::stacks_after))]
 fn stacks_of(rule: Rule, labels: &[u16], stem: usize) -> Stacks
     requires { (rule.len ≤ 32) × (stem < length labels.now) × (length labels.now ≤ 4096) }
     ensures { result.words ≡ stacks_after rule.nodes labels.now stem rule.len }
@@ -64,6 +67,7 @@ fn stacks_of(rule: Rule, labels: &[u16], stem: usize) -> Stacks
 }
 
 // Where position p stands among n positions, of which the first `stem` are the stem.
+#[tactic(auto, using(crate::specs::Places::in_stem, crate::specs::Places::in_round, crate::specs::Places::place_below))]
 pub fn place_of(stem: usize, n: usize, p: usize) -> usize
     requires { stem < n }
     ensures { (result ≡ place stem n p) × (result < n) }
@@ -75,6 +79,7 @@ pub fn place_of(stem: usize, n: usize, p: usize) -> usize
 }
 
 // Whether the rule holds at position p of the endless word that these labels go through, the stem once and then the loop for ever.
+#[tactic(auto, using(crate::specs::Right::around_means, crate::specs::Turns::around_asked))]
 pub fn holds_around(rule: Rule, labels: &[u16], stem: usize, p: usize) -> bool
     requires { (rule.len ≤ 32) × (stem < length labels.now) × (length labels.now ≤ 4096) }
     ensures is { result ≡ around_of rule labels.now stem p }

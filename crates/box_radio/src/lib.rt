@@ -32,6 +32,8 @@ fn plant_where(plant: Plant, fits: bool) -> Plant
     }
 }
 
+// The parts that are lent are those that the table counts.
+#[tactic(auto, unfolding(crate::specs::Radios::took_from))]
 fn take_from(held: Held, radio: Radio, fits: bool, scrap: &[u8], verdicts: &mut [u8]) -> Taken
     ensures taken { result ≡ (took_from held radio fits scrap.now (length verdicts.old)).taken }
     ensures verdicts { verdicts.new ≡ laid (took_from held radio fits scrap.now (length verdicts.old)).verdicts verdicts.old }
@@ -56,6 +58,8 @@ fn take_from(held: Held, radio: Radio, fits: bool, scrap: &[u8], verdicts: &mut 
     )
 }
 
+// The parts that are lent are those that the table counts.
+#[tactic(auto, unfolding(crate::specs::Radios::end_from))]
 fn end_from(held: Held, radio: Radio, fits: bool) -> Outcome
     ensures { result ≡ end_from held radio fits }
 {

@@ -9,6 +9,7 @@ use plant::Plant;
 use syntax::Rule;
 
 // 1, 2, and 9 for the rule.
+#[tactic(auto, unfolding(crate::specs::Checks::input_outcome))]
 pub fn check_input(plant: Plant, fair: &[u64], label: &[u16], next: &[u64], rule: Rule) -> Outcome
     ensures { result ≡ input_outcome plant fair.now label.now next.now rule }
 {

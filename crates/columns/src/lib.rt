@@ -17,6 +17,7 @@ const VALS: [u16; 27] = [
 ];
 
 // How many there are for one, two or three propositions.
+#[tactic(auto, unfolding(crate::specs::Columns::count_of))]
 pub fn count(props: usize) -> usize
     ensures { result ≡ count_of props }
 {
@@ -30,6 +31,7 @@ pub fn count(props: usize) -> usize
 }
 
 // The event of a column, with the number that is expected.
+#[tactic(auto, unfolding(crate::specs::Columns::event_at))]
 pub fn event_at(k: usize) -> Event
     requires { k < 54 }
     ensures { result ≡ event_at k }

@@ -65,6 +65,7 @@ struct Line {
 }
 
 // Whether the event sees propositions below `props` alone and gives 1 to none but those seen. For more propositions than it can see, which no table has, none is legal.
+#[tactic(auto, unfolding(crate::specs::Legal::legal_of))]
 pub fn is_legal(event: Event, props: usize) -> bool
     ensures { result ≡ legal_of event props }
 {
@@ -88,6 +89,7 @@ fn bytes_of(numbered: bool, width: usize) -> usize
 }
 
 // Whether a log's lines are to be numbered: its first byte tells it, the `n` of `num=`.
+#[tactic(auto, unfolding(crate::specs::Read::is_numbered))]
 fn is_numbered(text: &[u8]) -> bool
     ensures { result ≡ is_numbered text.now }
 {

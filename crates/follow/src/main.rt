@@ -9,7 +9,6 @@ ghost use Rattle.follow.specs.AtOnce.{events_in, goes_on, bytes_heard, Onward};
 
 use answers::{Answer, Kind, Outcome, Refusal};
 use controller::LogAnswer;
-use libc::STDIN_FILENO;
 use pairs::Pairs;
 use plant::{Plant, Table, TableRead};
 use program::given::{read_plant, read_rule};
@@ -17,6 +16,8 @@ use program::said::{refuse, show};
 use radio::{Form, Radio};
 use rule_text::RuleRead;
 use sides::Monitor;
+use std::io::Read;
+use std::rt::Files;
 use syntax::Rule;
 
 // The radio behind a scrap, and whether more is listened to.
@@ -27,25 +28,25 @@ struct Heard {
 }
 
 // The folder that the argument names, or this one.
-fn main() {
-    let mut folder = io::buffer();
-    let len = files::asked_folder(&mut folder);
-    with_folder(&folder[..len]);
+fn main(rt: HostRuntime) {
+    let mut folder = files::path_buffer();
+    let len = files::asked_folder(&rt, &mut folder);
+    with_folder(&rt, &mut rt.stdin(), &folder[..len]);
 }
 
 // plant.txt by 14, 3, 2.
-fn with_folder(folder: &[u8]) {
-    let read = read_plant(folder);
+fn with_folder<R: Files + Print, I: Read>(rt: &R, input: &mut I, folder: &[u8]) {
+    let read = read_plant(rt, folder);
     let outcome = read.outcome;
     let table = read.table;
     match outcome {
-        Outcome::Refused(refusal) => refuse(refusal),
-        Outcome::Accepted => with_table(folder, table),
+        Outcome::Refused(refusal) => refuse(rt, refusal),
+        Outcome::Accepted => with_table(rt, input, folder, table),
     }
 }
 
 // Of the table, as many parts are lent as it counts.
-fn with_table(folder: &[u8], table: Table)
+fn with_table<R: Files + Print, I: Read>(rt: &R, input: &mut I, folder: &[u8], table: Table)
     requires { Lent table }
 {
     let plant = table.plant;
@@ -55,6 +56,8 @@ fn with_table(folder: &[u8], table: Table)
     let label = table.label;
     let next = table.next;
     with_parts(
+        rt,
+        input,
         folder,
         plant,
         &fair[..just],
@@ -64,28 +67,54 @@ fn with_table(folder: &[u8], table: Table)
 }
 
 // rule.txt by 14 and 4 to 8.
-fn with_parts(folder: &[u8], plant: Plant, fair: &[u64], label: &[u16], next: &[u64]) {
-    let read: RuleRead = read_rule(folder, plant, fair, label, next);
+fn with_parts<R: Files + Print, I: Read>(
+    rt: &R,
+    input: &mut I,
+    folder: &[u8],
+    plant: Plant,
+    fair: &[u64],
+    label: &[u16],
+    next: &[u64],
+) {
+    let read: RuleRead = read_rule(rt, folder, plant, fair, label, next);
     let outcome = read.outcome;
     let rule = read.rule;
     match outcome {
-        Outcome::Refused(refusal) => refuse(refusal),
-        Outcome::Accepted => with_rule(plant, fair, label, next, rule),
+        Outcome::Refused(refusal) => refuse(rt, refusal),
+        Outcome::Accepted => with_rule(rt, input, plant, fair, label, next, rule),
     }
 }
 
 // The start line, and then the log.
-fn with_rule(plant: Plant, fair: &[u64], label: &[u16], next: &[u64], rule: Rule) {
+fn with_rule<P: Print, I: Read>(
+    to: &P,
+    input: &mut I,
+    plant: Plant,
+    fair: &[u64],
+    label: &[u16],
+    next: &[u64],
+    rule: Rule,
+) {
     let prepared = live::prepare(plant, fair, label, next, rule);
     let live = prepared.live;
     let opened = monitor::open(plant, fair, label, next, rule, live);
     let answer = opened.answer;
     let monitor = opened.monitor;
     match answer {
-        Answer::Refused(refusal) => refuse(refusal),
+        Answer::Refused(refusal) => refuse(to, refusal),
         Answer::Shown(lamp) => {
-            show(report::start_line(lamp));
-            follow(plant, fair, label, next, rule, live, silent(monitor));
+            show(to, report::start_line(lamp));
+            follow(
+                to,
+                input,
+                plant,
+                fair,
+                label,
+                next,
+                rule,
+                live,
+                silent(monitor),
+            );
         }
     }
 }
@@ -105,7 +134,9 @@ fn silent(monitor: Monitor) -> Radio
 }
 
 // Scrap after scrap. It comes to an end, since the log gets longer by each and may not have more bytes than a log may.
-fn follow(
+fn follow<P: Print, I: Read>(
+    to: &P,
+    input: &mut I,
     plant: Plant,
     fair: &[u64],
     label: &[u16],
@@ -119,14 +150,16 @@ fn follow(
     let mut now = radio;
     let mut more = true;
     while more {
-        let heard = listen(plant, fair, label, next, rule, live, now);
+        let heard = listen(to, input, plant, fair, label, next, rule, live, now);
         now = heard.radio;
         more = heard.more;
     }
 }
 
-// What standard input has now, at most 20 bytes: no line is shorter, so at most one ends, and the lamp behind it is shown before more is read.
-fn listen(
+// What the input has now, at most 20 bytes: no line is shorter, so at most one ends, and the lamp behind it is shown before more is read.
+fn listen<P: Print, I: Read>(
+    to: &P,
+    input: &mut I,
     plant: Plant,
     fair: &[u64],
     label: &[u16],
@@ -138,20 +171,40 @@ fn listen(
     ensures { Onward radio result.more result.radio }
 {
     let mut scrap = [0u8; 20];
-    let got = libc::read(STDIN_FILENO, &mut scrap);
-    let len = io::count(got, &scrap);
-    if len == 0 {
-        end(
-            got < 0,
-            scraps::finish(plant, fair, label, next, rule, live, radio),
-        );
-        return Heard { radio, more: false };
+    match input.read(&mut scrap) {
+        Ok(0) => {
+            end(
+                to,
+                false,
+                scraps::finish(plant, fair, label, next, rule, live, radio),
+            );
+            Heard { radio, more: false }
+        }
+        Ok(len) => hear(
+            to,
+            plant,
+            fair,
+            label,
+            next,
+            rule,
+            live,
+            radio,
+            &scrap[..len],
+        ),
+        Err(_) => {
+            end(
+                to,
+                true,
+                scraps::finish(plant, fair, label, next, rule, live, radio),
+            );
+            Heard { radio, more: false }
+        }
     }
-    hear(plant, fair, label, next, rule, live, radio, &scrap[..len])
 }
 
 // The lamp behind a scrap, if it ends an event's line.
-fn hear(
+fn hear<P: Print>(
+    to: &P,
     plant: Plant,
     fair: &[u64],
     label: &[u16],
@@ -180,9 +233,9 @@ fn hear(
     let behind = taken.radio;
     let monitor = behind.monitor;
     if has_event(answer) {
-        tell(monitor);
+        tell(to, monitor);
     }
-    let more = goes_on(answer);
+    let more = goes_on(to, answer);
     Heard {
         radio: behind,
         more,
@@ -201,27 +254,27 @@ fn has_event(answer: LogAnswer) -> bool
 }
 
 // A refusal is written, and ends the log.
-fn goes_on(answer: LogAnswer) -> bool
+fn goes_on<P: Print>(to: &P, answer: LogAnswer) -> bool
     ensures { result ≡ goes_on answer }
 {
     match answer {
         LogAnswer::Watched(_) => true,
         LogAnswer::Stopped(stop) => {
             let refusal = stop.refusal;
-            refuse(refusal);
+            refuse(to, refusal);
             false
         }
         LogAnswer::Refused(refusal) => {
-            refuse(refusal);
+            refuse(to, refusal);
             false
         }
     }
 }
 
 // The lamp behind an event, whose number is the one before that expected.
-fn tell(monitor: Monitor) {
+fn tell<P: Print>(to: &P, monitor: Monitor) {
     let number = before(monitor.expected);
-    show(report::lamp_line(number, advance::lamp(monitor)));
+    show(to, report::lamp_line(number, advance::lamp(monitor)));
 }
 
 fn before(expected: u64) -> usize {
@@ -232,13 +285,13 @@ fn before(expected: u64) -> usize {
 }
 
 // The end: a log that can no longer be read is 14.
-fn end(broken: bool, outcome: Outcome) {
+fn end<P: Print>(to: &P, broken: bool, outcome: Outcome) {
     if broken {
-        refuse(Refusal::at(Kind::File, 0));
+        refuse(to, Refusal::at(Kind::File, 0));
         return;
     }
     match outcome {
         Outcome::Accepted => {}
-        Outcome::Refused(refusal) => refuse(refusal),
+        Outcome::Refused(refusal) => refuse(to, refusal),
     }
 }

@@ -10,6 +10,7 @@ use program::said::{put, refuse};
 use report_text::states::states_at;
 use report_text::{ReportParts, ReportRead, read_report};
 use shown::Failing;
+use std::rt::Files;
 
 // The most bytes of report.txt.
 const REPORT: usize = 65536;
@@ -18,33 +19,33 @@ const REPORT: usize = 65536;
 const STATES: usize = 4097;
 
 // The folder that the argument names, or this one.
-fn main() {
-    let mut folder = io::buffer();
-    let len = files::asked_folder(&mut folder);
-    with_folder(&folder[..len]);
+fn main(rt: HostRuntime) {
+    let mut folder = files::path_buffer();
+    let len = files::asked_folder(&rt, &mut folder);
+    with_folder(&rt, &folder[..len]);
 }
 
 // The four files, by 14, before any of them is looked at.
-fn with_folder(folder: &[u8]) {
+fn with_folder<R: Files + Print>(rt: &R, folder: &[u8]) {
     let mut plant = [0u8; File::PLANT];
-    let file = files::read_in(folder, b"plant.txt", &mut plant);
+    let file = files::read_in(rt, folder, b"plant.txt", &mut plant);
     let len = file.len;
     if !file.ok {
-        refuse(Refusal::at(Kind::File, 0));
+        refuse(rt, Refusal::at(Kind::File, 0));
         return;
     }
-    with_plant(folder, &plant[..len]);
+    with_plant(rt, folder, &plant[..len]);
 }
 
-fn with_plant(folder: &[u8], plant: &[u8]) {
+fn with_plant<R: Files + Print>(rt: &R, folder: &[u8], plant: &[u8]) {
     let mut rule = [0u8; File::RULE];
-    let file = files::read_in(folder, b"rule.txt", &mut rule);
+    let file = files::read_in(rt, folder, b"rule.txt", &mut rule);
     let len = file.len;
     if !file.ok {
-        refuse(Refusal::at(Kind::File, 0));
+        refuse(rt, Refusal::at(Kind::File, 0));
         return;
     }
-    with_rule(folder, plant, without_end(&rule[..len]));
+    with_rule(rt, folder, plant, without_end(&rule[..len]));
 }
 
 // A rule's text, one final LF dropped.
@@ -60,39 +61,46 @@ fn without_end(text: &[u8]) -> &[u8] {
     &text[0..len]
 }
 
-fn with_rule(folder: &[u8], plant: &[u8], rule: &[u8]) {
+fn with_rule<R: Files + Print>(rt: &R, folder: &[u8], plant: &[u8], rule: &[u8]) {
     let mut log = [0u8; File::LOG];
-    let file = files::read_in(folder, b"log.txt", &mut log);
+    let file = files::read_in(rt, folder, b"log.txt", &mut log);
     let len = file.len;
     if !file.ok {
-        refuse(Refusal::at(Kind::File, 0));
+        refuse(rt, Refusal::at(Kind::File, 0));
         return;
     }
-    with_log(folder, plant, rule, &log[..len]);
+    with_log(rt, folder, plant, rule, &log[..len]);
 }
 
-fn with_log(folder: &[u8], plant: &[u8], rule: &[u8], log: &[u8]) {
+fn with_log<R: Files + Print>(rt: &R, folder: &[u8], plant: &[u8], rule: &[u8], log: &[u8]) {
     let mut text = [0u8; REPORT];
-    let file = files::read_in(folder, b"report.txt", &mut text);
+    let file = files::read_in(rt, folder, b"report.txt", &mut text);
     let len = file.len;
     if !file.ok {
-        refuse(Refusal::at(Kind::File, 0));
+        refuse(rt, Refusal::at(Kind::File, 0));
         return;
     }
-    with_text(plant, rule, log, &text[..len]);
+    with_text(rt, plant, rule, log, &text[..len]);
 }
 
 // The form of report.txt.
-fn with_text(plant: &[u8], rule: &[u8], log: &[u8], text: &[u8]) {
+fn with_text<P: Print>(to: &P, plant: &[u8], rule: &[u8], log: &[u8], text: &[u8]) {
     let read = read_report(text);
     match read {
-        ReportRead::Bad(place) => refuse_report(place),
-        ReportRead::Report(parts) => with_report(plant, rule, log, text, parts),
+        ReportRead::Bad(place) => refuse_report(to, place),
+        ReportRead::Report(parts) => with_report(to, plant, rule, log, text, parts),
     }
 }
 
 // The states of the two runs, and then the call.
-fn with_report(plant: &[u8], rule: &[u8], log: &[u8], text: &[u8], parts: ReportParts) {
+fn with_report<P: Print>(
+    to: &P,
+    plant: &[u8],
+    rule: &[u8],
+    log: &[u8],
+    text: &[u8],
+    parts: ReportParts,
+) {
     let keeping = parts.keeping;
     let breaking = parts.breaking;
     let mut keep_stem = [0u8; STATES];
@@ -113,56 +121,65 @@ fn with_report(plant: &[u8], rule: &[u8], log: &[u8], text: &[u8], parts: Report
         &break_stem[..c],
         &break_loop[..d],
     );
-    tell(judged);
+    tell(to, judged);
 }
 
-fn tell(judged: Judged) {
+fn tell<P: Print>(to: &P, judged: Judged) {
     match judged {
-        Judged::Accepted => put(b"accepted: the report is right\n"),
-        Judged::WrongRun(fault) => tell_fault(fault),
+        Judged::Accepted => put(to, b"accepted: the report is right\n"),
+        Judged::WrongRun(fault) => tell_fault(to, fault),
         Judged::WrongVerdict => {
-            put(b"wrong verdict: what is claimed is not what the runs of the table dictate\n")
+            put(
+                to,
+                b"wrong verdict: what is claimed is not what the runs of the table dictate\n",
+            )
         }
-        Judged::Stopped(stop) => refuse_event(stop),
-        Judged::Refused(refusal) => refuse(refusal),
+        Judged::Stopped(stop) => refuse_event(to, stop),
+        Judged::Refused(refusal) => refuse(to, refusal),
     }
 }
 
-fn tell_fault(fault: Fault) {
+fn tell_fault<P: Print>(to: &P, fault: Fault) {
     let failing = fault.failing;
     if fault.keeps {
-        put(b"wrong run: the one that keeps the rule fails ");
+        put(to, b"wrong run: the one that keeps the rule fails ");
     } else {
-        put(b"wrong run: the one that breaks the rule fails ");
+        put(to, b"wrong run: the one that breaks the rule fails ");
     }
-    tell_failing(failing);
+    tell_failing(to, failing);
 }
 
 // The rule that a run fails, and what that means.
-fn tell_failing(failing: Failing) {
+fn tell_failing<P: Print>(to: &P, failing: Failing) {
     match failing {
         Failing::Start => put(
+            to,
             b"start: it has no first state, or one that is not in the table, or that is no starting state\n",
         ),
         Failing::Moves => put(
+            to,
             b"moves: its loop is empty, or a state is not in the table, or one may not be followed by the next\n",
         ),
-        Failing::Fairness => put(b"fairness: its loop misses a fairness set\n"),
-        Failing::Agreement => put(b"agreement: at some event its state is not as was seen\n"),
+        Failing::Fairness => put(to, b"fairness: its loop misses a fairness set\n"),
+        Failing::Agreement => put(
+            to,
+            b"agreement: at some event its state is not as was seen\n",
+        ),
         Failing::Value => put(
+            to,
             b"the rule's value: from the last restart on it is of the other kind\n",
         ),
     }
 }
 
 // An event is refused at the offset of its line.
-fn refuse_event(stop: Stop) {
+fn refuse_event<P: Print>(to: &P, stop: Stop) {
     let refusal = stop.refusal;
-    refuse(refusal);
+    refuse(to, refusal);
 }
 
 // A text that is no report is refused as a log is, by 12 at the first byte that can't be right; the word before it says which text it is.
-fn refuse_report(place: usize) {
-    put(b"report ");
-    refuse(Refusal::at(Kind::LogText, place));
+fn refuse_report<P: Print>(to: &P, place: usize) {
+    put(to, b"report ");
+    refuse(to, Refusal::at(Kind::LogText, place));
 }

@@ -33,8 +33,7 @@ fn event_from(numbered: u8, num: u32, see: u16, val: u16, restart: u8) -> Event
 }
 
 // One event, noted in the day.
-#[unsafe(no_mangle)]
-pub extern "C" fn jug_note(
+pub fn jug_note(
     words: &mut [u64; 384],
     day: &mut [u64; 260],
     numbered: u8,
@@ -52,8 +51,7 @@ pub extern "C" fn jug_note(
 }
 
 // The sheet of a day as its text.
-#[unsafe(no_mangle)]
-pub extern "C" fn jug_day_sheet(day: &[u64; 260], text: &mut [u8]) -> Answer
+pub fn jug_day_sheet(day: &[u64; 260], text: &mut [u8]) -> Answer
     ensures answer { result ≡ sheet_wrote_as (write_answer (sheet_in day.now) text.old) }
     ensures text { text.new ≡ write_buffer (sheet_in day.now) text.old }
 {

@@ -1,9 +1,9 @@
-// The box for C programs: the functions that include/jugastilum.h declares. Each makes the call that it stands for, and tells its answer in four numbers.
+// The box for C programs: the functions that include/jugastilum.h declares, which the crate jugastilum_c hands to C. Each makes the call that it stands for, and tells its answer in four numbers.
 #![tactic(auto)]
 
 mod closings;
 mod day_sheets;
-mod machines;
+mod machine_calls;
 mod radios;
 mod reports;
 mod sheets;
@@ -19,17 +19,18 @@ ghost use Rattle.told.specs.Told.{shown_as, heard_as};
 ghost use Rattle.box_calls.specs.Calls.{opened_shown, box_opened, looked_in, stepped_in, box_after};
 ghost use Rattle.jugastilum.specs.Calls.{event_of, GoesOn};
 
+pub use closings::jug_close_log;
+pub use day_sheets::{jug_day_sheet, jug_note};
 use event_log::{Event, Num};
+pub use machine_calls::{jug_machine, jug_machine_step, jug_machine_steps};
+pub use radios::{jug_end, jug_take};
+pub use reports::jug_judge;
+pub use sheets::{jug_keep_sheet, jug_kept_sheet, jug_setting};
+pub use tables::jug_write_table;
 use told::Answer;
 
 // A whole log: a verdict byte for each event.
-#[unsafe(no_mangle)]
-pub extern "C" fn jug_watch_log(
-    table: &[u8],
-    rule: &[u8],
-    log: &[u8],
-    verdicts: &mut [u8],
-) -> Answer
+pub fn jug_watch_log(table: &[u8], rule: &[u8], log: &[u8], verdicts: &mut [u8]) -> Answer
     ensures answer { result ≡ heard_as (heard_of table.now rule.now log.now (length verdicts.old)).answer }
     ensures verdicts { verdicts.new ≡ over
         (heard_of table.now rule.now log.now (length verdicts.old)).bytes verdicts.old }
@@ -38,8 +39,7 @@ pub extern "C" fn jug_watch_log(
 }
 
 // Reads a table and a rule, and opens a monitor in the box, whatever was in it.
-#[unsafe(no_mangle)]
-pub extern "C" fn jug_open(table: &[u8], rule: &[u8], words: &mut [u64; 384]) -> Answer
+pub fn jug_open(table: &[u8], rule: &[u8], words: &mut [u64; 384]) -> Answer
     ensures answer { result ≡ shown_as (opened_shown (opened_of table.now rule.now)) }
     ensures words { words.new ≡ box_opened words.old (opened_of table.now rule.now) }
 {
@@ -47,16 +47,14 @@ pub extern "C" fn jug_open(table: &[u8], rule: &[u8], words: &mut [u64; 384]) ->
 }
 
 // What the lamp shows for the monitor in the box.
-#[unsafe(no_mangle)]
-pub extern "C" fn jug_look(words: &[u64; 384]) -> Answer
+pub fn jug_look(words: &[u64; 384]) -> Answer
     ensures { result ≡ shown_as (looked_in (held_in words.now)) }
 {
     told::shown(box_calls::look(words))
 }
 
 // One event, which has the number that is expected.
-#[unsafe(no_mangle)]
-pub extern "C" fn jug_step(words: &mut [u64; 384], see: u16, val: u16, restart: u8) -> Answer
+pub fn jug_step(words: &mut [u64; 384], see: u16, val: u16, restart: u8) -> Answer
     ensures answer { result ≡ shown_as (stepped_in (held_in words.old) (event_of Expected see val restart)).answer }
     ensures words { words.new ≡ box_after words.old (stepped_in (held_in words.old) (event_of Expected see val restart)) }
 {
@@ -70,8 +68,7 @@ pub extern "C" fn jug_step(words: &mut [u64; 384], see: u16, val: u16, restart: 
 }
 
 // One event with its number.
-#[unsafe(no_mangle)]
-pub extern "C" fn jug_step_numbered(
+pub fn jug_step_numbered(
     words: &mut [u64; 384],
     num: u32,
     see: u16,
@@ -91,8 +88,7 @@ pub extern "C" fn jug_step_numbered(
 }
 
 // How a run goes on that keeps the rule, or that breaks it where `keeps` is 0.
-#[unsafe(no_mangle)]
-pub extern "C" fn jug_goes_on(words: &[u64; 384], keeps: u8, states: &mut [u8]) -> Answer
+pub fn jug_goes_on(words: &[u64; 384], keeps: u8, states: &mut [u8]) -> Answer
     ensures { GoesOn (held_in words.now) (not (eqb keeps 0)) states.old states.new result }
 {
     told::run(box_calls::goes_on(words, keeps != 0, states))

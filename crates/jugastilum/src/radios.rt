@@ -7,8 +7,7 @@ ghost use Rattle.box_radio.specs.Radios.{box_taken, took_in, end_in};
 use told::Answer;
 
 // A scrap of a log: a verdict byte for each event whose line it ends.
-#[unsafe(no_mangle)]
-pub extern "C" fn jug_take(words: &mut [u64; 384], scrap: &[u8], verdicts: &mut [u8]) -> Answer
+pub fn jug_take(words: &mut [u64; 384], scrap: &[u8], verdicts: &mut [u8]) -> Answer
     ensures answer { result ≡ heard_as (took_in words.old scrap.now (length verdicts.old)).taken.answer }
     ensures words { words.new ≡ box_taken words.old (took_in words.old scrap.now (length verdicts.old)).taken }
     ensures verdicts { verdicts.new ≡ laid (took_in words.old scrap.now (length verdicts.old)).verdicts verdicts.old }
@@ -17,8 +16,7 @@ pub extern "C" fn jug_take(words: &mut [u64; 384], scrap: &[u8], verdicts: &mut 
 }
 
 // Whether the log may end where it stands.
-#[unsafe(no_mangle)]
-pub extern "C" fn jug_end(words: &[u64; 384]) -> Answer
+pub fn jug_end(words: &[u64; 384]) -> Answer
     ensures { result ≡ end_as (end_in words.now) }
 {
     told::ended(box_radio::finish(words))

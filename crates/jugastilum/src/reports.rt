@@ -8,8 +8,7 @@ use neighbour::judge_report;
 use told::Answer;
 
 // Checks the report of a neighbour's tool: its claim, and the runs that it shows.
-#[unsafe(no_mangle)]
-pub extern "C" fn jug_judge(
+pub fn jug_judge(
     table: &[u8],
     rule: &[u8],
     log: &[u8],

@@ -11,8 +11,8 @@ use sheet::Key;
 use told::Answer;
 
 // Where the value of a key stands: 1 edition, 2 rule, 3 closing. Another key is a value that no sheet has: 9.
-#[unsafe(no_mangle)]
-pub extern "C" fn jug_setting<'a>(local: &'a [u8], shared: &'a [u8], key: u8) -> Answer
+#[tactic(auto, unfolding(crate::specs::Calls::setting_for))]
+pub fn jug_setting<'a>(local: &'a [u8], shared: &'a [u8], key: u8) -> Answer
     ensures { result ≡ setting_for key local.now shared.now }
 {
     if key == 1 {
@@ -32,8 +32,7 @@ pub extern "C" fn jug_setting<'a>(local: &'a [u8], shared: &'a [u8], key: u8) ->
 }
 
 // Keeps a sheet by its own edition.
-#[unsafe(no_mangle)]
-pub extern "C" fn jug_keep_sheet(store: &mut [u64; 1040], sheet: &[u8]) -> Answer
+pub fn jug_keep_sheet(store: &mut [u64; 1040], sheet: &[u8]) -> Answer
     ensures answer { result ≡ held_as (added (store_in store.old) sheet.now).answer }
     ensures words { store.new ≡ next_words store.old (added (store_in store.old) sheet.now) }
 {
@@ -41,8 +40,7 @@ pub extern "C" fn jug_keep_sheet(store: &mut [u64; 1040], sheet: &[u8]) -> Answe
 }
 
 // Copies out the sheet of an edition.
-#[unsafe(no_mangle)]
-pub extern "C" fn jug_kept_sheet(store: &[u64; 1040], edition: u64, buffer: &mut [u8]) -> Answer
+pub fn jug_kept_sheet(store: &[u64; 1040], edition: u64, buffer: &mut [u8]) -> Answer
     ensures answer { result ≡ copied_as (copied (store_in store.now) edition buffer.old).answer }
     ensures buffer { buffer.new ≡ (copied (store_in store.now) edition buffer.old).buffer }
 {

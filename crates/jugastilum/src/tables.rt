@@ -8,8 +8,7 @@ use plant::Plant;
 use told::Answer;
 
 // Writes the table that is handed in as its text. The counts have 64 bits here, as in any program that links this.
-#[unsafe(no_mangle)]
-pub extern "C" fn jug_write_table(
+pub fn jug_write_table(
     props: u64,
     states: u64,
     start: u64,

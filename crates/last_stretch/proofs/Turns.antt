@@ -70,5 +70,5 @@ pub going_on : (b : Bool) (line : ℕ) → (b && ltb 0 line) ≡ true → 0 < li
 going_on b line test = ltb-true 0 line ((and_says b (ltb 0 line)).0 test).1
 
 -- however the lines were counted
-pub found_in : (rule : Rule) (event : ℕ → Event) {n k : ℕ} → n ≡ k → {r : Found} → r ≡ found_of rule event n → r ≡ found_of rule event k
-found_in rule event e h = h ∙ ap (found_of rule event) e
+pub found_counted : (rule : Rule) (event : ℕ → Event) {n k : ℕ} → n ≡ k → {r : Found} → r ≡ found_of rule event n → r ≡ found_of rule event k
+found_counted rule event e h = h ∙ ap (found_of rule event) e

@@ -12,31 +12,32 @@ use plant::{Plant, Table, TableRead};
 use program::given::{read_plant, read_rule};
 use program::said::refuse;
 use rule_text::RuleRead;
+use std::rt::Files;
 use syntax::Rule;
 
 // The bytes of the largest machine: 256 rows of 56.
 const BYTES: usize = 14336;
 
 // The folder that the argument names, or this one.
-fn main() {
-    let mut folder = io::buffer();
-    let len = files::asked_folder(&mut folder);
-    run_in(&folder[..len]);
+fn main(rt: HostRuntime) {
+    let mut folder = files::path_buffer();
+    let len = files::asked_folder(&rt, &mut folder);
+    run_in(&rt, &folder[..len]);
 }
 
 // The two files of the folder, as `program` reads them; a refusal is the whole output.
-fn run_in(folder: &[u8]) {
-    let read = read_plant(folder);
+fn run_in<R: Files + Print>(rt: &R, folder: &[u8]) {
+    let read = read_plant(rt, folder);
     let outcome = read.outcome;
     let table = read.table;
     match outcome {
-        Outcome::Refused(refusal) => refuse(refusal),
-        Outcome::Accepted => with_table(folder, table),
+        Outcome::Refused(refusal) => refuse(rt, refusal),
+        Outcome::Accepted => with_table(rt, folder, table),
     }
 }
 
 // Of a table as many parts are lent as it counts.
-fn with_table(folder: &[u8], table: Table)
+fn with_table<R: Files + Print>(rt: &R, folder: &[u8], table: Table)
     requires { Lent table }
 {
     let plant = table.plant;
@@ -46,6 +47,7 @@ fn with_table(folder: &[u8], table: Table)
     let label = table.label;
     let next = table.next;
     with_parts(
+        rt,
         folder,
         plant,
         &fair[..just],
@@ -54,23 +56,37 @@ fn with_table(folder: &[u8], table: Table)
     );
 }
 
-fn with_parts(folder: &[u8], plant: Plant, fair: &[u64], label: &[u16], next: &[u64]) {
-    let read = read_rule(folder, plant, fair, label, next);
+fn with_parts<R: Files + Print>(
+    rt: &R,
+    folder: &[u8],
+    plant: Plant,
+    fair: &[u64],
+    label: &[u16],
+    next: &[u64],
+) {
+    let read = read_rule(rt, folder, plant, fair, label, next);
     let outcome = read.outcome;
     let rule = read.rule;
     match outcome {
-        Outcome::Refused(refusal) => refuse(refusal),
-        Outcome::Accepted => with_rule(plant, fair, label, next, rule),
+        Outcome::Refused(refusal) => refuse(rt, refusal),
+        Outcome::Accepted => with_rule(rt, plant, fair, label, next, rule),
     }
 }
 
 // There is room for the largest machine, so only 1 and 15 are left to refuse.
-fn with_rule(plant: Plant, fair: &[u64], label: &[u16], next: &[u64], rule: Rule) {
+fn with_rule<P: Print>(
+    to: &P,
+    plant: Plant,
+    fair: &[u64],
+    label: &[u16],
+    next: &[u64],
+    rule: Rule,
+) {
     let mut work = [0u64; Size::WORDS];
     let mut machine = [0u8; BYTES];
     let made = make_machine(plant, fair, label, next, rule, &mut work, &mut machine);
     match made {
-        Made::Refused(refusal) => refuse(refusal),
-        Made::Rows(size) => rows::show_machine(&machine, size),
+        Made::Refused(refusal) => refuse(to, refusal),
+        Made::Rows(size) => rows::show_machine(to, &machine, size),
     }
 }

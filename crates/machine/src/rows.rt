@@ -2,7 +2,7 @@
 ghost use Rattle.std.specs.Prelude.{◌+◌, ◌*◌, ◌<◌, ◌≤◌, length};
 
 use fixed_machine::Size;
-use libc::STDOUT_FILENO;
+use program::said::{put, put_decimal};
 use writing::put_text;
 
 // The bytes of the longest line: a row of 54 cells for a person.
@@ -11,46 +11,41 @@ const LINE: usize = 347;
 // Where the cells begin on a person's line, behind the row, the verdict and what is left.
 const CELLS: usize = 22;
 
-pub fn show_machine(machine: &[u8], size: Size)
+pub fn show_machine<P: Print>(to: &P, machine: &[u8], size: Size)
     requires { (size.rows * size.bytes ≤ length machine.now) × (2 ≤ size.bytes) × (size.bytes ≤ 56) }
 {
     let rows = size.rows;
     let bytes = size.bytes;
     let all = rows * bytes;
-    show_both(&machine[..all], rows, bytes);
+    show_both(to, &machine[..all], rows, bytes);
 }
 
-fn show_both(machine: &[u8], rows: usize, bytes: usize)
+fn show_both<P: Print>(to: &P, machine: &[u8], rows: usize, bytes: usize)
     requires { (2 ≤ bytes) × (bytes ≤ 56) }
 {
-    show(
+    put(
+        to,
         b"/* The rule as a fixed machine. Row 0 is the opening. A cell is the next row, after the event see/val/new above it.\n\n",
     );
-    show_head(bytes - 2);
-    show_rows(machine, bytes);
-    show(b"*/\nstatic const unsigned char jug_machine_bytes[");
-    show_number(rows);
-    show(b"][");
-    show_number(bytes);
-    show(b"] = {\n");
-    show_bytes(machine, bytes);
-    show(b"};\n");
+    show_head(to, bytes - 2);
+    show_rows(to, machine, bytes);
+    put(to, b"*/\nstatic const unsigned char jug_machine_bytes[");
+    show_number(to, rows);
+    put(to, b"][");
+    show_number(to, bytes);
+    put(to, b"] = {\n");
+    show_bytes(to, machine, bytes);
+    put(to, b"};\n");
 }
 
-fn show(text: &[u8]) {
-    io::write_all(STDOUT_FILENO, text);
-}
-
-fn show_start(text: &[u8], len: usize)
+fn show_start<P: Print>(to: &P, text: &[u8], len: usize)
     requires { len ≤ length text.now }
 {
-    show(&text[..len]);
+    put(to, &text[..len]);
 }
 
-fn show_number(n: usize) {
-    let mut text = [0u8; 20];
-    let len = io::decimal(n as u64, &mut text);
-    show(&text[..len]);
+fn show_number<P: Print>(to: &P, n: usize) {
+    put_decimal(to, n as u64);
 }
 
 // The last digit of a number.
@@ -81,7 +76,7 @@ fn put_cell(line: &mut [u8], at: usize, before: u8, n: usize)
 }
 
 // What the columns are: of each event what is seen, what of that is on, and whether it is a restart.
-fn show_head(columns: usize)
+fn show_head<P: Print>(to: &P, columns: usize)
     requires { columns ≤ 54 }
 {
     let mut line = [b' '; LINE];
@@ -89,7 +84,7 @@ fn show_head(columns: usize)
     put_names(&mut line, columns);
     let end = CELLS + 6 * columns;
     put_text(&mut line, end, b"\n");
-    show_start(&line, end + 1);
+    show_start(to, &line, end + 1);
 }
 
 fn put_names(line: &mut [u8], columns: usize)
@@ -111,19 +106,19 @@ fn put_name(line: &mut [u8], at: usize, k: usize)
 }
 
 // A line for each whole row.
-fn show_rows(machine: &[u8], bytes: usize)
+fn show_rows<P: Print>(to: &P, machine: &[u8], bytes: usize)
     requires { (2 ≤ bytes) × (bytes ≤ 56) }
 {
     let mut row = 0;
     let mut at = 0;
     while bytes <= machine.len() - at {
-        show_row(row, &machine[at..at + bytes]);
+        show_row(to, row, &machine[at..at + bytes]);
         row += 1;
         at += bytes;
     }
 }
 
-fn show_row(row: usize, bytes: &[u8])
+fn show_row<P: Print>(to: &P, row: usize, bytes: &[u8])
     requires { (2 ≤ length bytes.now) × (length bytes.now ≤ 56) }
 {
     let mut line = [b' '; LINE];
@@ -133,7 +128,7 @@ fn show_row(row: usize, bytes: &[u8])
     put_cells(&mut line, bytes);
     let end = 10 + 6 * bytes.len();
     put_text(&mut line, end, b"\n");
-    show_start(&line, end + 1);
+    show_start(to, &line, end + 1);
 }
 
 // The verdict of a number.
@@ -161,17 +156,17 @@ fn put_cells(line: &mut [u8], bytes: &[u8])
 }
 
 // A line of the array for each whole row.
-fn show_bytes(machine: &[u8], bytes: usize)
+fn show_bytes<P: Print>(to: &P, machine: &[u8], bytes: usize)
     requires { (2 ≤ bytes) × (bytes ≤ 56) }
 {
     let mut at = 0;
     while bytes <= machine.len() - at {
-        show_line(&machine[at..at + bytes]);
+        show_line(to, &machine[at..at + bytes]);
         at += bytes;
     }
 }
 
-fn show_line(bytes: &[u8])
+fn show_line<P: Print>(to: &P, bytes: &[u8])
     requires { length bytes.now ≤ 56 }
 {
     let mut line = [b' '; LINE];
@@ -179,7 +174,7 @@ fn show_line(bytes: &[u8])
     put_text(&mut line, 4, b"{");
     let end = 4 + 4 * bytes.len();
     put_text(&mut line, end, b"},\n");
-    show_start(&line, end + 3);
+    show_start(to, &line, end + 3);
 }
 
 // A comma before each; the first gives way to `{`.

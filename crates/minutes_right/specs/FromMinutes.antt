@@ -132,9 +132,9 @@ minutes_right_lem table rule log t f es table_says accepted rule_says log_says =
 
 module _ (text : List ℕ) where
   -- beside a refusal of texts that are not opened stands the empty sheet
-  not_opened : (rule log : List ℕ) (r : Refusal) → opened_of text rule ≡ not_opened r → minutes_of text rule log ≡ no_minutes r
+  unopened : (rule log : List ℕ) (r : Refusal) → opened_of text rule ≡ not_opened r → minutes_of text rule log ≡ no_minutes r
   unfolding minutes_of
-  not_opened rule log r e = ap (λ (x : Opened). minutes_from x log) e
+  unopened rule log r e = ap (λ (x : Opened). minutes_from x log) e
 
   module _ (t : run.Plant) (says : SaysTable (bytes text) t) (table : AcceptedTable t) where
     -- the table that is said is lent, part by part
@@ -171,7 +171,7 @@ module _ (text : List ℕ) where
         by : (x : RuleRead) → rule_read (counts_in t) t.fair t.label t.next rule ≡ x → Answer x → OfRule t rule log (minutes_of text rule log)
         by x e (refuses kind i) =
             rule_refused kind i ((rules.refused_exactly (counts_in t) t.fair t.label t.next rule kind i).0 e)
-            (not_opened rule log (refused_at kind i) (behind_table rule ∙ rw e refl))
+            (unopened rule log (refused_at kind i) (behind_table rule ∙ rw e refl))
         by x e (gives-rule r) =
             let takes = (rules.accepted_exactly (counts_in t) t.fair t.label t.next rule r).0 e in
             let rule_says : SaysBare rule t.props takes.formula = record {
@@ -190,5 +190,5 @@ every_minutes table rule log = by (plants.reading table)
 
     by : plants.Reading table → OfTable table rule log (minutes_of table rule log)
     by (plants.accepted t accepted small r) = let says = table_says t small in table_said t says accepted (of_rule table t says accepted rule log)
-    by (plants.beyond t formed b small r) = bit_beyond t (table_says t small) formed b (not_opened table rule log _ (rw r refl))
-    by (plants.misformed i p r) = table_refused i p (not_opened table rule log _ (rw r refl))
+    by (plants.beyond t formed b small r) = bit_beyond t (table_says t small) formed b (unopened table rule log _ (rw r refl))
+    by (plants.misformed i p r) = table_refused i p (unopened table rule log _ (rw r refl))

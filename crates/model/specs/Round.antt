@@ -8,10 +8,8 @@ use mathlib.Core.List.{List, [], ◌∷◌, ◌++◌, map, foldl, Forall₂, Mem
 use Rattle.meaning.specs.Bit.{bit}
 use Rattle.words.specs.Below.{words_below}
 use Rattle.words.specs.Unions.{word_at_lem}
-use Rattle.pairs.specs.Sets.{inside}
 use Rattle.graphs.specs.Sets.{Nodes}
 use Rattle.graphs.specs.Close.{closure_target}
-use Rattle.graphs.specs.Core
 use Rattle.graphs.specs.Trim.{Trimmed, trimmed_start, trimmed_on}
 use Rattle.meaning.specs.Formula.{Formula, parts}
 use Rattle.meaning.specs.Run.{Plant, label_of}

@@ -121,7 +121,7 @@ module _ (Sem : Formula → ℕ → Type 0) (Asked : ℕ → Type 0) (at : ℕ �
           → 1 + length fs ≤ 64 → Shows (S p) fs 0 → Shows (S (p + 1)) (f ∷ fs) 0
       puts_leaf o f r z p fs h l few s =
           let e : p + 1 ≡ suc p = omega arith in
-          rw e (shows_push p o 0 f fs (omega arith) (first o [] p h) z (omega arith) (rows.leaf r _ _) s)
+          subst (λ (k : ℕ). Shows (S k) (f ∷ fs) 0) (sym e) (shows_push p o 0 f fs (omega arith) (first o [] p h) z (omega arith) (rows.leaf r _ _) s)
 
       puts_one : (o : Op) (u : Formula → Formula) → Unary o u → sides o ≡ 1 → (a : Formula) → Puts a
           → (p : ℕ) (fs : List Formula) → Numbered (Is nodes) (postfix a ++ o ∷ []) p → p + suc (size a) ≤ len
@@ -130,7 +130,7 @@ module _ (Sem : Formula → ℕ → Type 0) (Asked : ℕ → Type 0) (at : ℕ �
           let e : p + suc (size a) ≡ suc (p + size a) = omega arith in
           let n = split a (o ∷ []) p h in
           let t = puts p fs n.0 (omega arith) (omega arith) s in
-          rw e (shows_push (p + size a) o 1 (u a) fs (omega arith) (first o [] (p + size a) n.1) z (omega arith) (rows.one r a _ _ t.0) t.1)
+          subst (λ (k : ℕ). Shows (S k) (u a ∷ fs) 0) (sym e) (shows_push (p + size a) o 1 (u a) fs (omega arith) (first o [] (p + size a) n.1) z (omega arith) (rows.one r a _ _ t.0) t.1)
 
       puts_two : {v : Level} {d : Side} (o : Op) (j : Formula → Formula → Formula) → Binary v d o j → sides o ≡ 2 → (a b : Formula) → Puts a → Puts b
           → (p : ℕ) (fs : List Formula) → Numbered (Is nodes) (postfix a ++ (postfix b ++ o ∷ [])) p → p + suc (size a + size b) ≤ len
@@ -141,7 +141,7 @@ module _ (Sem : Formula → ℕ → Type 0) (Asked : ℕ → Type 0) (at : ℕ �
           let n = split a (postfix b ++ o ∷ []) p h in
           let m = split b (o ∷ []) (p + size a) n.1 in
           let t = puts (p + size a) (a ∷ fs) m.0 (omega arith) (omega arith) (first-puts p fs n.0 (omega arith) (omega arith) s) in
-          rw e (shows_push q o 2 (j a b) fs (omega arith) (first o [] q m.1) z (omega arith) (rows.two r a b _ _ t.1.0 t.0) t.1.1)
+          subst (λ (k : ℕ). Shows (S k) (j a b ∷ fs) 0) (sym e) (shows_push q o 2 (j a b) fs (omega arith) (first o [] q m.1) z (omega arith) (rows.two r a b _ _ t.1.0 t.0) t.1.1)
 
       puts : (f : Formula) → Puts f
       unfolding postfix size

@@ -61,6 +61,7 @@ pub fn guess(op: Op) -> bool
 }
 
 // The stack with a node's operands taken off and its value put on.
+#[tactic(auto, unfolding(crate::specs::Unfold::pushed_of))]
 pub fn pushed(stack: u64, op: Op, value: bool) -> u64
     ensures { result ≡ pushed_of stack op value }
 {
@@ -75,6 +76,7 @@ pub fn value_at(op: Op, label: u64, stack: u64, ahead: bool) -> bool
 }
 
 // What it hands on to the position before: X its operand, any other node its own value.
+#[tactic(auto, using(std::proofs::lemmas::Grind::common_steps), unfolding(crate::specs::Unfold::carry_at))]
 pub fn carry_at(op: Op, label: u64, stack: u64, ahead: bool) -> bool
     ensures { result ≡ carry_at op label stack ahead }
 {

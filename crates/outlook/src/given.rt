@@ -6,6 +6,7 @@ use answers::{Outcome, Refusal};
 use plant::{Plant, Table, TableRead};
 use program::given::{read_plant, read_rule};
 use rule_text::RuleRead;
+use std::rt::Files;
 use syntax::Rule;
 use transcript::texts;
 
@@ -18,21 +19,21 @@ pub struct Given {
     pub len: usize,
 }
 
-pub fn read_given(folder: &[u8], text: &mut [u8]) -> Given
+pub fn read_given<R: Files>(rt: &R, folder: &[u8], text: &mut [u8]) -> Given
     ensures table { Lent result.table }
     ensures log { IsPrefixLen result.len text.new }
 {
-    let read = read_plant(folder);
+    let read = read_plant(rt, folder);
     let outcome = read.outcome;
     let table = read.table;
     match outcome {
         Outcome::Refused(refusal) => none_of(refusal, table, Rule::empty(), text),
-        Outcome::Accepted => with_table(folder, table, text),
+        Outcome::Accepted => with_table(rt, folder, table, text),
     }
 }
 
 // rule.txt, and what follows.
-fn with_table(folder: &[u8], table: Table, text: &mut [u8]) -> Given
+fn with_table<R: Files>(rt: &R, folder: &[u8], table: Table, text: &mut [u8]) -> Given
     requires { Lent table }
     ensures table { Lent result.table }
     ensures log { IsPrefixLen result.len text.new }
@@ -44,6 +45,7 @@ fn with_table(folder: &[u8], table: Table, text: &mut [u8]) -> Given
     let label = table.label;
     let next = table.next;
     let read = read_rule(
+        rt,
         folder,
         plant,
         &fair[..just],
@@ -54,17 +56,17 @@ fn with_table(folder: &[u8], table: Table, text: &mut [u8]) -> Given
     let rule = read.rule;
     match outcome {
         Outcome::Refused(refusal) => none_of(refusal, table, rule, text),
-        Outcome::Accepted => with_rule(folder, table, rule, text),
+        Outcome::Accepted => with_rule(rt, folder, table, rule, text),
     }
 }
 
 // log.txt, and its form.
-fn with_rule(folder: &[u8], table: Table, rule: Rule, text: &mut [u8]) -> Given
+fn with_rule<R: Files>(rt: &R, folder: &[u8], table: Table, rule: Rule, text: &mut [u8]) -> Given
     requires { Lent table }
     ensures table { Lent result.table }
     ensures log { IsPrefixLen result.len text.new }
 {
-    let file = files::read_in(folder, b"log.txt", text);
+    let file = files::read_in(rt, folder, b"log.txt", text);
     let len = file.len;
     let plant = table.plant;
     let outcome = texts::check_log(file.ok, &text[..len], plant.props);
@@ -82,11 +84,10 @@ fn none_of(refusal: Refusal, table: Table, rule: Rule, text: &[u8]) -> Given
     ensures table { Lent result.table }
     ensures log { IsPrefixLen result.len text.now }
 {
-    let len = io::count(-1, text);
     Given {
         outcome: Outcome::Refused(refusal),
         table,
         rule,
-        len,
+        len: 0,
     }
 }

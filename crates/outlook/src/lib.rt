@@ -9,26 +9,26 @@ ghost use Rattle.std.specs.Prelude.{◌≤◌, length};
 
 use answers::{Outcome, Refusal};
 use files::File;
-use libc::STDOUT_FILENO;
 use monitor::Monitor;
 use plant::Plant;
-use program::said::{refuse, show};
+use program::said::{put, refuse, show};
 use report::Line;
+use std::rt::{Env, Files};
 use syntax::Rule;
 use walk::Lengths;
 use witness::Witnessed;
 
 // The folder that the argument names, or this one.
-pub fn run() {
-    let mut folder = io::buffer();
-    let len = files::asked_folder(&mut folder);
-    run_in(&folder[..len]);
+pub fn run<R: Env + Files + Print>(rt: &R) {
+    let mut folder = files::path_buffer();
+    let len = files::asked_folder(rt, &mut folder);
+    run_in(rt, &folder[..len]);
 }
 
 // The three files of the folder, as `program` reads them; a refusal is the whole output.
-fn run_in(folder: &[u8]) {
+fn run_in<R: Files + Print>(rt: &R, folder: &[u8]) {
     let mut text = [0u8; File::LOG];
-    let given = given::read_given(folder, &mut text);
+    let given = given::read_given(rt, folder, &mut text);
     let outcome = given.outcome;
     let table = given.table;
     let rule = given.rule;
@@ -40,8 +40,9 @@ fn run_in(folder: &[u8]) {
     let label = table.label;
     let next = table.next;
     match outcome {
-        Outcome::Refused(refusal) => refuse(refusal),
+        Outcome::Refused(refusal) => refuse(rt, refusal),
         Outcome::Accepted => show_end(
+            rt,
             b"",
             plant,
             &fair[..just],
@@ -54,7 +55,8 @@ fn run_in(folder: &[u8]) {
 }
 
 // The two lines behind the log's last event, each with `name` before it; or the refusal of an event.
-pub fn show_end(
+pub fn show_end<P: Print>(
+    to: &P,
     name: &[u8],
     plant: Plant,
     fair: &[u64],
@@ -67,15 +69,16 @@ pub fn show_end(
     let outcome = end.outcome;
     let monitor = end.monitor;
     match outcome {
-        Outcome::Refused(refusal) => refuse(refusal),
+        Outcome::Refused(refusal) => refuse(to, refusal),
         Outcome::Accepted => {
-            show_run(name, plant, fair, label, next, rule, monitor, true);
-            show_run(name, plant, fair, label, next, rule, monitor, false);
+            show_run(to, name, plant, fair, label, next, rule, monitor, true);
+            show_run(to, name, plant, fair, label, next, rule, monitor, false);
         }
     }
 }
 
-fn show_run(
+fn show_run<P: Print>(
+    to: &P,
     name: &[u8],
     plant: Plant,
     fair: &[u64],
@@ -87,19 +90,19 @@ fn show_run(
 ) {
     let mut states = [0u8; Lengths::ROOM];
     let answer = witness::witness(plant, fair, label, next, rule, monitor, keeps, &mut states);
-    io::write_all(STDOUT_FILENO, name);
+    put(to, name);
     match answer {
-        Witnessed::Refused(refusal) => show(report::no_run_line(keeps, refusal)),
-        Witnessed::Run(lengths) => write_run(keeps, &states, lengths),
+        Witnessed::Refused(refusal) => show(to, report::no_run_line(keeps, refusal)),
+        Witnessed::Run(lengths) => write_run(to, keeps, &states, lengths),
     }
 }
 
-fn write_run(keeps: bool, states: &[u8], lengths: Lengths)
+fn write_run<P: Print>(to: &P, keeps: bool, states: &[u8], lengths: Lengths)
     requires { (lengths.stem ≤ 4095) × (lengths.turn ≤ 45056) × (49152 ≤ length states.now) }
 {
     let stem = lengths.stem;
     let all = stem + lengths.turn;
     let mut line = [0u8; Line::RUN];
     let len = report::run_line(&mut line, keeps, &states[..all], stem);
-    io::write_all(STDOUT_FILENO, &line[..len]);
+    put(to, &line[..len]);
 }

@@ -13,6 +13,7 @@ use plant::Plant;
 use writing::{put_byte, put_text};
 
 // The byte of a digit: a small letter from ten on.
+#[tactic(auto, unfolding(text::specs::Slot::digit_byte))]
 fn digit_byte(v: u64) -> u8
     requires { v < 16 }
     ensures { result ≡ digit_byte v }
@@ -36,6 +37,7 @@ fn put_hex(buffer: &mut [u8], at: usize, width: usize, n: u64) -> usize
 }
 
 // A number below 100 in decimal, with no leading zero, and the byte that ends it.
+#[tactic(auto, using(crate::specs::Pieces::one_long, crate::specs::Pieces::two_long, writing::specs::Put::puts, writing::specs::Put::put_length))]
 fn put_count(buffer: &mut [u8], at: usize, end: u8, n: usize) -> usize
     requires { (n < 100) × (at + length (count_slots end n) ≤ length buffer.old) }
     ensures { Put buffer.old at (text_of (count_slots end n)) buffer.new result }

@@ -6,35 +6,33 @@ pub mod given;
 pub mod said;
 
 use files::File;
-use libc::STDOUT_FILENO;
+use said::put;
+use std::rt::{Env, Files};
 
 // The folder that the argument names, or this one.
-pub fn run() {
-    let mut folder = io::buffer();
-    let len = files::asked_folder(&mut folder);
-    run_in(&folder[..len]);
+pub fn run<R: Env + Files + Print>(rt: &R) {
+    let mut folder = files::path_buffer();
+    let len = files::asked_folder(rt, &mut folder);
+    run_in(rt, &folder[..len]);
 }
 
 // All three files are read first. In which order they are judged, and what is written, is `write_output`'s alone.
-pub fn run_in(folder: &[u8]) {
+pub fn run_in<R: Files + Print>(rt: &R, folder: &[u8]) {
     let mut plant = [0u8; File::PLANT];
     let mut rule = [0u8; File::RULE];
     let mut log = [0u8; File::LOG];
-    let table = files::read_in(folder, b"plant.txt", &mut plant);
-    let asked = files::read_in(folder, b"rule.txt", &mut rule);
-    let events = files::read_in(folder, b"log.txt", &mut log);
-    let first = table.len;
-    let second = asked.len;
-    let third = events.len;
+    let table = files::read_in(rt, folder, b"plant.txt", &mut plant);
+    let asked = files::read_in(rt, folder, b"rule.txt", &mut rule);
+    let events = files::read_in(rt, folder, b"log.txt", &mut log);
     let mut out = [0u8; transcript::ROOM];
     let len = transcript::write_output(
         table.ok,
-        &plant[..first],
+        &plant[..table.len],
         asked.ok,
-        &rule[..second],
+        &rule[..asked.len],
         events.ok,
-        &log[..third],
+        &log[..events.len],
         &mut out,
     );
-    io::write_all(STDOUT_FILENO, &out[..len]);
+    put(rt, &out[..len]);
 }

@@ -8,7 +8,7 @@ use contract.Lifetimes.{Lfts}
 use denote.Triple.Clauses.{AtExit}
 use borrow.Fn.Claims.{AllOf}
 use borrow.Fn.World.{World, Pr, ArgsD, ResD}
-use borrow.Fn.Read.{Read, no_know, all_models, reads}
+use borrow.Fn.Read.{Read, no_know, all_models, r_last, r_top}
 use Rattle.meaning.specs.Formula.{Formula}
 use Rattle.meaning.specs.Run as run
 use Rattle.model.specs.Monitor as model
@@ -18,6 +18,8 @@ use Rattle.answers.specs.declared.Outcome.TheVariants.{Accepted, Refused}
 use Rattle.plant.specs.Table.{plant_of}
 use Rattle.syntax.specs.Value.{formula_of}
 use Rattle.sides.specs.Held.{model_of}
+use Rattle.monitor.specs.declared.Watched.{Watched}
+use Rattle.monitor.specs.Calls.{step_call}
 use Rattle.walk.specs.declared.Lengths.{Lengths}
 use Rattle.walk.specs.Shows.{Shows}
 use Rattle.witness.specs.declared.Witnessed.{Witnessed}
@@ -103,8 +105,12 @@ module _ (κs : Lfts 4) (x : ArgsD in_place.signature κs) where
   abbrev clause : ResD in_place.signature κs → AtExit in_place.ended κs → (w : World) → Pr w
   clause r u w = (in_place.clauses w.𝓛 w.𝓜.mem w.𝓡.run κs x).ensures tt r u
 
+  -- what the call by value answers, of the monitor as it is lent
+  abbrev stepped : Watched
+  stepped = step_call x.0 x.1.0.now x.1.1.0.now x.1.1.1.0.now x.1.1.1.1.0 x.1.1.1.1.1.0 x.1.1.1.1.1.1.0.now x.1.1.1.1.1.1.1.0
+
   abbrev reading : (r : ResD in_place.signature κs) (u : AtExit in_place.ended κs) → Read (λ w. emp w.𝓤) no_know (clause r u)
-  reading r u = all_models (clause r u) (λ w. search reads) (λ w. refl) (λ w. refl) (λ w. refl)
+  reading r u = all_models (clause r u) (λ w. r_last ((r ≡ stepped.answer) × (u.1.1.1.1.1.1.0.now ≡ stepped.monitor))) (λ w. refl) (λ w. refl) (λ w. refl)
 
   abbrev pub StepLearnt : ResD in_place.signature κs → AtExit in_place.ended κs → Type 0
   StepLearnt r u = AllOf (reading r u).tells
@@ -153,7 +159,7 @@ module _ (κs : Lfts 4) (x : ArgsD in_place.signature κs) where
   condition w = (in_place.clauses w.𝓛 w.𝓜.mem w.𝓡.run κs x).requires tt
 
   abbrev needed : Read (λ w. emp w.𝓤) no_know condition
-  needed = all_models condition (λ w. search reads) (λ w. refl) (λ w. refl) (λ w. refl)
+  needed = all_models condition (λ w. r_top) (λ w. refl) (λ w. refl) (λ w. refl)
 
   pub any_step_in_place : AllOf needed.owes
   any_step_in_place = tt

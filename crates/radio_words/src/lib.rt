@@ -9,7 +9,8 @@ use answers::{Kind, Outcome, Refusal};
 use radio::{Form, Radio};
 use sides::Monitor;
 
-// A byte of the part. The words are lent: handed over by value they would be copied for each byte.
+// A byte of the part: a word shifted down. The words are lent: handed over by value they would be copied for each byte.
+#[tactic(auto, unfolding(crate::specs::Words::byte_in))]
 fn byte_in(words: &[u64; 384], at: usize) -> u8
     requires { at < 40 }
     ensures { result ≡ byte_in words.now at }
@@ -28,6 +29,8 @@ fn part_in(words: [u64; 384]) -> [u8; 40]
     part
 }
 
+// By the tests.
+#[tactic(auto, unfolding(crate::specs::Words::form_in))]
 fn form_in(code: u64) -> Form
     ensures { result ≡ form_in code }
 {
@@ -40,7 +43,8 @@ fn form_in(code: u64) -> Form
     Form::Unknown
 }
 
-// What can stand is an event's refusal, 10 or 16, or a byte's, 12.
+// What can stand is an event's refusal, 10 or 16, or a byte's, 12. By the tests.
+#[tactic(auto, unfolding(crate::specs::Words::standing_in))]
 fn standing_in(code: u64, place: usize) -> Outcome
     ensures { result ≡ standing_in code place }
 {
@@ -56,7 +60,8 @@ fn standing_in(code: u64, place: usize) -> Outcome
     Outcome::Accepted
 }
 
-// What the words say, with a monitor.
+// What the words say, with a monitor, field by field.
+#[tactic(auto, unfolding(crate::specs::Words::radio_in))]
 pub fn radio_in(words: [u64; 384], monitor: Monitor) -> Radio
     ensures { result ≡ radio_in words monitor }
 {
@@ -73,7 +78,8 @@ pub fn radio_in(words: [u64; 384], monitor: Monitor) -> Radio
     }
 }
 
-// Whether they can: a form, the number of a refusal that can stand, and no place where none does.
+// Whether they can: a form, the number of a refusal that can stand, and no place where none does. By whether a refusal stands.
+#[tactic(auto, unfolding(crate::specs::Words::can_stand))]
 pub fn can_stand(words: [u64; 384]) -> bool
     ensures { result ≡ can_stand words }
 {
@@ -127,7 +133,8 @@ fn standing_place(standing: Outcome) -> u64
     }
 }
 
-// One of the ten.
+// One of the ten. Each return computes by the tests that led to it.
+#[tactic(auto, unfolding(crate::specs::Words::radio_word))]
 fn radio_word(radio: Radio, at: usize) -> u64
     ensures { result ≡ radio_word radio at }
 {

@@ -118,8 +118,8 @@ pub accepted_taken : (ns : List ℕ) → Taken (accepted ns)
 accepted_taken ns m q e = false≢true (ap is_refused e)
 
 module _ (rs : Rows) {a : Paper} {o : Outcome} (tells : Tells a o) where
-  pub refused_as : Judged rs o → (k : Kind) (q : ℕ) → (a ≡ refused (kind_number k) q) ↔ Because rs k q
-  refused_as j k q = (there j, back j)
+  pub refused_because : Judged rs o → (k : Kind) (q : ℕ) → (a ≡ refused (kind_number k) q) ↔ Because rs k q
+  refused_because j k q = (there j, back j)
     where
       there : Judged rs o → a ≡ refused (kind_number k) q → Because rs k q
       there (by_none n e) r = absurd (subst (Tells a) e tells (kind_number k) q r)

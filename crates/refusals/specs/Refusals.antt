@@ -79,7 +79,7 @@ use Rattle.refusals.specs.Judged.{
   Tells,
   verdict_taken,
   accepted_taken,
-  refused_as,
+  refused_because,
   taken_as,
 }
 
@@ -295,7 +295,7 @@ module _ (p : Plant) (fair label next : List ℕ) (rule : Rule) where
     module _ (c : Call) (z : Arrays c) (a : Paper) (answer : Answers c a) where
       -- refused by a number exactly for its cause, where no cause before it applies, and at place 0
       pub refused_exactly : (k : Kind) (q : ℕ) → (a ≡ refused (kind_number k) q) ↔ Because (causes p fair label next rule c) k q
-      refused_exactly = refused_as (causes p fair label next rule c) (tells c a answer) (judged c z)
+      refused_exactly = refused_because (causes p fair label next rule c) (tells c a answer) (judged c z)
 
       -- accepted exactly if there is none
       pub accepted_exactly : Taken a ↔ NoCause (causes p fair label next rule c)
@@ -330,7 +330,7 @@ module _ (rule : Rule) (buffer : List ℕ) (full : length rule.nodes ≡ 32) whe
       (λ so. judged_row Room (not short) (finds_so (short_says ((valid_exactly rule names full).0 so))) (λ so. judged_end_lem))
 
   pub print_refused_exactly : (k : Kind) (q : ℕ) → (printed (print_answer rule buffer) ≡ refused (kind_number k) q) ↔ Because (print_causes rule buffer) k q
-  print_refused_exactly = refused_as (print_causes rule buffer) print_tells print_judged
+  print_refused_exactly = refused_because (print_causes rule buffer) print_tells print_judged
 
   pub print_accepted_exactly : Taken (printed (print_answer rule buffer)) ↔ NoCause (print_causes rule buffer)
   print_accepted_exactly = taken_as (print_causes rule buffer) print_tells print_judged
@@ -355,7 +355,7 @@ module _ (p : Plant) (fair label next buffer : List ℕ) where
   write_judged = judged_table p fair label next (λ e. subst (Judged _) (no_more (unless fits_in Room)) (judged_row Room fits_in finds_room (λ so. judged_end_lem)))
 
   pub write_refused_exactly : (k : Kind) (q : ℕ) → (wrote (write_answer p fair label next buffer) ≡ refused (kind_number k) q) ↔ Because (write_causes p fair label next buffer) k q
-  write_refused_exactly = refused_as (write_causes p fair label next buffer) write_tells write_judged
+  write_refused_exactly = refused_because (write_causes p fair label next buffer) write_tells write_judged
 
   pub write_accepted_exactly : Taken (wrote (write_answer p fair label next buffer)) ↔ NoCause (write_causes p fair label next buffer)
   write_accepted_exactly = taken_as (write_causes p fair label next buffer) write_tells write_judged

@@ -36,6 +36,7 @@ put_more i states p q = simp unary_clauses (puts p q)
 
 zeros_left : (k n : ℕ) → k ≤ n → drop k (replicate {A = ℕ} n 0) ≡ replicate (n - k) 0
 zeros_left zero n h = ap (λ (k : ℕ). replicate {A = ℕ} k 0) (sym (sub-zero n))
+zeros_left (suc k) zero h = elim h [ ]
 zeros_left (suc k) (suc n) h = zeros_left k n (omega arith) ∙ ap (λ (k : ℕ). replicate {A = ℕ} k 0) (sym (suc-sub-suc n k))
 
 -- a text put on an empty line

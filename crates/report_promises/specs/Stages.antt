@@ -1,5 +1,5 @@
 -- The readers of a report's lines, one behind the other: what was read is a report so far, and where the text leaves it, what was read begins one.
-use Rattle.std.specs.Prelude.{ℕ, ◌+◌, ◌≤◌, ◌≡◌, ◌⊎◌, Bool, cond, eqb, length, get_or}
+use Rattle.std.specs.Prelude.{ℕ, ◌≤◌, ◌≡◌, ◌⊎◌, Bool, cond, eqb, length, get_or}
 use Rattle.std.proofs.Common.{arith, sym, ◌∙◌, inr}
 use Rattle.std.proofs.Math.Path.{refl, ap, subst}
 use Rattle.std.proofs.Math.Logic.{inl}

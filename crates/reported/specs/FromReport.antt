@@ -139,9 +139,9 @@ module _ (text : List ℕ) (claim : ℕ) (keep_stem keep_loop break_stem break_l
   sent = report_of claim keep_stem keep_loop break_stem break_loop
 
   -- nothing but a refusal comes of texts that are not opened
-  not_opened : (rule log : List ℕ) (r : Refusal) → opened_of text rule ≡ not_opened r → judged_of text rule log sent ≡ Refused r
+  unopened : (rule log : List ℕ) (r : Refusal) → opened_of text rule ≡ not_opened r → judged_of text rule log sent ≡ Refused r
   unfolding judged_of end_of
-  not_opened rule log r e = ap (λ (x : Opened). judged_end (end_from x log) log sent) e
+  unopened rule log r e = ap (λ (x : Opened). judged_end (end_from x log) log sent) e
 
   module _ (t : run.Plant) (says : SaysTable (bytes text) t) (table : AcceptedTable t) where
     -- the table that is said is lent, part by part
@@ -177,7 +177,7 @@ module _ (text : List ℕ) (claim : ℕ) (keep_stem keep_loop break_stem break_l
         by : (x : RuleRead) → rule_read (counts_in t) t.fair t.label t.next rule ≡ x → Answer x → OfRule claim keep_stem keep_loop break_stem break_loop t rule log (judged_of text rule log sent)
         by x e (refuses kind i) =
             rule_refused kind i ((rules.refused_exactly (counts_in t) t.fair t.label t.next rule kind i).0 e)
-            (not_opened rule log (refused_at kind i) (behind_table rule ∙ rw e refl))
+            (unopened rule log (refused_at kind i) (behind_table rule ∙ rw e refl))
         by x e (gives-rule r) =
             let takes = (rules.accepted_exactly (counts_in t) t.fair t.label t.next rule r).0 e in
             let rule_says : SaysBare rule t.props takes.formula = record {
@@ -196,8 +196,8 @@ every_report table rule log claim keep_stem keep_loop break_stem break_loop = by
 
     by : plants.Reading table → OfTable claim keep_stem keep_loop break_stem break_loop table rule log (judged_of table rule log (report_of claim keep_stem keep_loop break_stem break_loop))
     by (plants.accepted t accepted small r) = let says = table_says t small in table_said t says accepted (of_rule table claim keep_stem keep_loop break_stem break_loop t says accepted rule log)
-    by (plants.beyond t formed b small r) = bit_beyond t (table_says t small) formed b (not_opened table claim keep_stem keep_loop break_stem break_loop rule log _ (rw r refl))
-    by (plants.misformed i p r) = table_refused i p (not_opened table claim keep_stem keep_loop break_stem break_loop rule log _ (rw r refl))
+    by (plants.beyond t formed b small r) = bit_beyond t (table_says t small) formed b (unopened table claim keep_stem keep_loop break_stem break_loop rule log _ (rw r refl))
+    by (plants.misformed i p r) = table_refused i p (unopened table claim keep_stem keep_loop break_stem break_loop rule log _ (rw r refl))
 
 -- WHERE ALL EVENTS ARE ACCEPTED each answer is given exactly where the report deserves it: which run is wrong and the first rule that it fails, that the verdict is wrong, 9 and 22
 pub answers_right : (table rule log : List ℕ) (t : run.Plant) (f : Formula) (es : List Event) → SaysTable (bytes table) t → AcceptedTable t → SaysBare rule t.props f → SaysLog (bytes log) t.props es

@@ -11,44 +11,40 @@
 mod value;
 
 use answers::{Outcome, Refusal};
-use cases::{field, number};
-use libc::{STDIN_FILENO, STDOUT_FILENO};
+use cases::{field, find, number};
 use plant::Plant;
+use program::said::{put, put_decimal};
 use rule::Printed;
 use rule_text::RuleRead;
 use syntax::Rule;
 
-fn put(text: &[u8]) {
-    io::write_all(STDOUT_FILENO, text);
-}
-
-fn tell(refusal: Refusal) {
+fn tell<P: Print>(to: &P, refusal: Refusal) {
     let kind = refusal.kind;
-    put(b"refused=");
-    io::print_decimal(STDOUT_FILENO, kind.number() as u64);
-    put(b" place=");
-    io::print_decimal(STDOUT_FILENO, refusal.place as u64);
-    put(b"\n");
+    put(to, b"refused=");
+    put_decimal(to, kind.number() as u64);
+    put(to, b" place=");
+    put_decimal(to, refusal.place as u64);
+    put(to, b"\n");
 }
 
 // The first n bytes, in a line.
-fn show(text: &[u8], n: usize) {
+fn show<P: Print>(to: &P, text: &[u8], n: usize) {
     if n <= text.len() {
-        put(&text[..n]);
-        put(b"\n");
+        put(to, &text[..n]);
+        put(to, b"\n");
     }
 }
 
-fn print(rule: Rule, buffer: &mut [u8]) {
+fn print<P: Print>(to: &P, rule: Rule, buffer: &mut [u8]) {
     let printed = rule::print_rule(rule, buffer);
     match printed {
-        Printed::Text(text) => show(buffer, text.bytes),
-        Printed::Refused(refusal) => tell(refusal),
+        Printed::Text(text) => show(to, buffer, text.bytes),
+        Printed::Refused(refusal) => tell(to, refusal),
     }
 }
 
 // Reads a text for plant W, but for what the case changes, and prints the rule that it gives.
-fn read(props: usize, start: u64, text: &[u8]) {
+fn read<P: Print>(to: &P, props: usize, start: u64, text: &[u8]) {
     let plant = Plant {
         props,
         states: 3,
@@ -63,42 +59,43 @@ fn read(props: usize, start: u64, text: &[u8]) {
     let outcome = reading.outcome;
     let mut buffer = [0u8; 109];
     match outcome {
-        Outcome::Accepted => print(rule, &mut buffer),
-        Outcome::Refused(refusal) => tell(refusal),
+        Outcome::Accepted => print(to, rule, &mut buffer),
+        Outcome::Refused(refusal) => tell(to, refusal),
     }
 }
 
-fn text_case(line: &[u8]) {
+fn text_case<P: Print>(to: &P, line: &[u8]) {
     let mut text = [0u8; 1024];
     let n = cases::bytes_of(field(line, b'#', 4), &mut text);
     read(
+        to,
         number(field(line, b'#', 2)),
         number(field(line, b'#', 3)) as u64,
         &text[..n],
     );
 }
 
-fn value_case(line: &[u8]) {
+fn value_case<P: Print>(to: &P, line: &[u8]) {
     let rule = value::value(number(field(line, b'#', 3)), field(line, b'#', 4));
     if rule_value::is_valid(rule, number(field(line, b'#', 2))) {
-        put(b"a rule, ");
+        put(to, b"a rule, ");
     } else {
-        put(b"no rule, ");
+        put(to, b"no rule, ");
     }
     let mut buffer = [0u8; 109];
-    print(rule, &mut buffer);
+    print(to, rule, &mut buffer);
 }
 
-fn buffer_case(line: &[u8]) {
+fn buffer_case<P: Print>(to: &P, line: &[u8]) {
     let rule = value::value(number(field(line, b'#', 3)), field(line, b'#', 4));
     let mut buffer = [0u8; 109];
     let n = cases::bytes_of(field(line, b'#', 2), &mut buffer);
-    into(rule, &mut buffer[..n]);
+    into(to, rule, &mut buffer[..n]);
 }
 
-fn into(rule: Rule, buffer: &mut [u8]) {
-    print(rule, buffer);
-    show(buffer, buffer.len());
+fn into<P: Print>(to: &P, rule: Rule, buffer: &mut [u8]) {
+    print(to, rule, buffer);
+    show(to, buffer, buffer.len());
 }
 
 fn letter(line: &[u8]) -> u8 {
@@ -109,28 +106,28 @@ fn letter(line: &[u8]) -> u8 {
     kind[0]
 }
 
-fn case(line: &[u8]) {
-    put(field(line, b'#', 0));
-    put(b": ");
+fn case<P: Print>(to: &P, line: &[u8]) {
+    put(to, field(line, b'#', 0));
+    put(to, b": ");
     match letter(line) {
-        b't' => text_case(line),
-        b'v' => value_case(line),
-        b'b' => buffer_case(line),
-        _ => read(2, 1, line),
+        b't' => text_case(to, line),
+        b'v' => value_case(to, line),
+        b'b' => buffer_case(to, line),
+        _ => read(to, 2, 1, line),
     }
 }
 
-fn each(input: &[u8]) {
+fn each<P: Print>(to: &P, input: &[u8]) {
     let mut at = 0;
     while at < input.len() {
-        let end = bytes::scan::find(input, at, input.len(), b'\n');
-        case(&input[at..end]);
+        let end = find(input, at, input.len(), b'\n');
+        case(to, &input[at..end]);
         at = if end < input.len() { end + 1 } else { end };
     }
 }
 
-fn main() {
-    let mut input = io::large_buffer();
-    let n = io::read_full(STDIN_FILENO, &mut input);
-    each(&input[..n]);
+fn main(rt: HostRuntime) {
+    let mut input = [0u8; 65536];
+    let given = files::fill(&mut rt.stdin(), &mut input);
+    each(&rt, &input[..given.len]);
 }

@@ -36,6 +36,7 @@ pub enum Found {
 }
 
 // Whether a `p` stands at `at` whose number is not below `props`.
+#[tactic(auto, using(crate::specs::Checks::unknown_end, crate::specs::Checks::unknown_other, crate::specs::Checks::unknown_name))]
 fn is_unknown(text: &[u8], at: usize, props: usize) -> bool
     requires { at < length text.now }
     ensures { result ≡ unknown props (get_or text.now at 0) (drop (at + 1) text.now) }
@@ -52,6 +53,7 @@ fn is_unknown(text: &[u8], at: usize, props: usize) -> bool
 }
 
 // The first such place.
+#[tactic(auto, using(crate::specs::Checks::unknown_turn, crate::specs::Checks::unknown_none))]
 fn unknown_at(text: &[u8], props: usize) -> Found
     ensures { result ≡ unknown_at props 0 text.now }
 {

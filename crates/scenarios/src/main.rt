@@ -2,28 +2,29 @@
 // folder, a colon and what it shows. That line stands above what the program writes.
 #![tactic(auto)]
 
-use libc::STDOUT_FILENO;
+use cases::find;
+use program::said::put;
+use std::rt::Files;
 
-fn scenario(folder: &[u8], line: &[u8]) {
-    io::write_all(STDOUT_FILENO, b"-- ");
-    io::write_all(STDOUT_FILENO, line);
-    io::write_all(STDOUT_FILENO, b"\n");
-    program::run_in(folder);
+fn scenario<R: Files + Print>(rt: &R, folder: &[u8], line: &[u8]) {
+    put(rt, b"-- ");
+    put(rt, line);
+    put(rt, b"\n");
+    program::run_in(rt, folder);
 }
 
-fn each(list: &[u8]) {
+fn each<R: Files + Print>(rt: &R, list: &[u8]) {
     let mut at = 0;
     while at < list.len() {
-        let end = bytes::scan::find(list, at, list.len(), b'\n');
-        let colon = bytes::scan::find(list, at, end, b':');
-        scenario(&list[at..colon], &list[at..end]);
+        let end = find(list, at, list.len(), b'\n');
+        let colon = find(list, at, end, b':');
+        scenario(rt, &list[at..colon], &list[at..end]);
         at = if end < list.len() { end + 1 } else { end };
     }
 }
 
-fn main() {
-    let mut list = io::large_buffer();
-    let file = files::read_file(b"scenarios.txt", &mut list);
-    let len = file.len;
-    each(&list[..len]);
+fn main(rt: HostRuntime) {
+    let mut list = [0u8; 65536];
+    let file = files::read_file(&rt, b"scenarios.txt", &mut list);
+    each(&rt, &list[..file.len]);
 }

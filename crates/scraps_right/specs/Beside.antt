@@ -21,7 +21,6 @@ use Rattle.opened.specs.declared.Opened.{Opened}
 use Rattle.opened.specs.Opened.{fair_in, label_in, next_in, opened_of}
 use Rattle.opened.specs.Fits.{opened_full, opened_fits}
 use Rattle.controller.specs.declared.LogAnswer.{LogAnswer}
-use Rattle.controller.specs.declared.LogAnswer.TheVariants.{Refused}
 use Rattle.controller.specs.Whole.{Heard, log_checked, end_at, heard_by, heard_in, heard_of}
 use Rattle.scraps.specs.Calls.{heard_answer}
 use Rattle.cuttings.specs.Scraps.{Scrap, text}

@@ -21,8 +21,6 @@ use Rattle.text.specs.Number.{width_of}
 use Rattle.event_log.specs.declared.Event.{Event}
 use Rattle.sides.specs.declared.Monitor.{Monitor}
 use Rattle.monitor.specs.Calls.{watched, step_checked, step_call}
-use Rattle.controller.specs.declared.LogAnswer.TheVariants.{Refused}
-use Rattle.controller.specs.Whole.{Heard}
 use Rattle.radio.specs.declared.Radio.{Radio}
 use Rattle.radio.specs.Radio as radio
 use Rattle.radio.specs.Radio.{hear_all}

@@ -87,6 +87,7 @@ fn spot_in(n: u8, lines: Lines, key: Key) -> Spot
 }
 
 // The answer of two sheets of which the lines are known.
+#[tactic(auto, unfolding(crate::specs::Asked::chosen))]
 fn choose(own: Lines, common: Lines, key: Key) -> Asked
     requires { Few own × Few common }
     ensures { result ≡ chosen own common key }
@@ -105,6 +106,7 @@ fn choose(own: Lines, common: Lines, key: Key) -> Asked
 }
 
 // Where the value of a key stands, or the refusal: 18 for the local sheet, 18 for the shared one, then 17.
+#[tactic(auto, using(sheet::specs::Where::scan_few), unfolding(crate::specs::Asked::asked))]
 pub fn ask<'a>(local: &'a [u8], shared: &'a [u8], key: Key) -> Asked
     ensures { result ≡ asked local.now shared.now key }
 {
@@ -174,6 +176,7 @@ pub fn value_of<'a>(local: &'a [u8], shared: &'a [u8], a: Asked) -> &'a [u8]
 
 // The value of a key: the very bytes in the sheet that has it. It makes a struct that holds a reference, so its proof is a walk by hand: it calls two covered functions and puts
 // their results together.
+#[tactic(auto, using(std::proofs::lemmas::Grind::common_steps))]
 pub fn look_up<'a>(local: &'a [u8], shared: &'a [u8], key: Key) -> Setting<'a>
     ensures { (result.answer ≡ asked local.now shared.now key) × IsPart (spot_of result.answer) local.entry shared.entry result.bytes }
 {

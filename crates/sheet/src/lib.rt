@@ -94,6 +94,7 @@ pub enum Grown {
 }
 
 // The line whose key begins with the byte, and 3 where none does.
+#[tactic(auto, unfolding(crate::specs::Machine::line_by))]
 fn line_by(b: u8) -> usize
     ensures { result ≡ line_by b }
 {
@@ -110,6 +111,7 @@ fn line_by(b: u8) -> usize
 }
 
 // A line j begins where lines from k on may.
+#[tactic(auto, unfolding(crate::specs::Machine::begun))]
 fn begin(k: usize, j: usize) -> State
     ensures { result ≡ begun k j }
 {
@@ -123,6 +125,7 @@ fn begin(k: usize, j: usize) -> State
 }
 
 // The byte of a line's key at a place.
+#[tactic(auto, unfolding(crate::specs::Machine::key_byte))]
 fn key_byte(k: usize, i: usize) -> u8
     ensures { result ≡ key_byte k i }
 {
@@ -136,6 +139,7 @@ fn key_byte(k: usize, i: usize) -> u8
 }
 
 // How many bytes a line's key has, with the `=`.
+#[tactic(auto, unfolding(crate::specs::Machine::key_size))]
 fn key_size(k: usize) -> usize
     ensures { result ≡ key_size k }
 {
@@ -143,6 +147,7 @@ fn key_size(k: usize) -> usize
 }
 
 // The state behind i bytes of a key.
+#[tactic(auto, unfolding(crate::specs::Machine::named))]
 fn name(k: usize, i: usize) -> State
     ensures { result ≡ named k i }
 {
@@ -154,6 +159,7 @@ fn name(k: usize, i: usize) -> State
 }
 
 // Whether what is read of a number is a zero, so that no digit may follow.
+#[tactic(auto, unfolding(crate::specs::Machine::lead_zero))]
 fn lead_zero(at: usize, n: usize) -> bool
     ensures { result ≡ lead_zero at n }
 {
@@ -164,6 +170,7 @@ fn lead_zero(at: usize, n: usize) -> bool
 }
 
 // A number within its range.
+#[tactic(auto, unfolding(crate::specs::Machine::ranged))]
 fn range(lo: usize, hi: usize, n: usize) -> Grown
     ensures { result ≡ ranged lo hi n }
 {
@@ -177,6 +184,7 @@ fn range(lo: usize, hi: usize, n: usize) -> Grown
 }
 
 // A decimal number with one digit more, from lo to hi, where hi is at most 65,535.
+#[tactic(auto, unfolding(crate::specs::Machine::digit_grown))]
 fn grow_digit(lo: usize, hi: usize, at: usize, n: usize, b: u8) -> Grown
     ensures { result ≡ digit_grown lo hi at n b }
 {
@@ -196,6 +204,7 @@ fn grow_digit(lo: usize, hi: usize, at: usize, n: usize, b: u8) -> Grown
 }
 
 // A rule with one byte more.
+#[tactic(auto, unfolding(crate::specs::Machine::byte_grown))]
 fn grow_byte(at: usize, b: u8) -> Grown
     ensures { result ≡ byte_grown at b }
 {
@@ -212,6 +221,7 @@ fn grow_byte(at: usize, b: u8) -> Grown
 }
 
 // A line's value with one byte more.
+#[tactic(auto, unfolding(crate::specs::Machine::value_grown))]
 fn grow(k: usize, at: usize, n: usize, b: u8) -> Grown
     ensures { result ≡ value_grown k at n b }
 {
@@ -236,6 +246,7 @@ fn value(k: usize, at: usize, grown: Grown) -> State
 }
 
 // The state behind the LF that ends a value of `at` bytes.
+#[tactic(auto, unfolding(crate::specs::Machine::ended))]
 fn end(k: usize, at: usize) -> State
     requires { k < 4096 }
     ensures { result ≡ ended k at }
@@ -247,6 +258,7 @@ fn end(k: usize, at: usize) -> State
 }
 
 // The state behind a byte of a key.
+#[tactic(auto, unfolding(crate::specs::Machine::state_after))]
 fn in_name(k: usize, i: usize, b: u8) -> State
     requires { i < 4096 }
     ensures { result ≡ state_after (Name k i) b }
@@ -258,6 +270,7 @@ fn in_name(k: usize, i: usize, b: u8) -> State
 }
 
 // The state behind a byte of a value, or the LF that ends it.
+#[tactic(auto, unfolding(crate::specs::Machine::state_after))]
 fn in_value(k: usize, at: usize, n: usize, b: u8) -> State
     requires { k + at < 4096 }
     ensures { result ≡ state_after (Value k at n) b }
@@ -269,6 +282,7 @@ fn in_value(k: usize, at: usize, n: usize, b: u8) -> State
 }
 
 // The state behind a byte.
+#[tactic(auto, unfolding(crate::specs::Machine::state_after))]
 fn step(state: State, b: u8) -> State
     requires { size_of state < 4096 }
     ensures { result ≡ state_after state b }
@@ -306,6 +320,7 @@ fn may_end(state: State) -> bool
 }
 
 // The value of line k has `at` bytes, and makes the number n.
+#[tactic(auto, unfolding(crate::specs::Machine::file_as))]
 fn file_as(lines: Lines, k: usize, at: usize, n: usize) -> Lines
     ensures { result ≡ file_as lines k at n }
 {
@@ -334,6 +349,7 @@ fn file_as(lines: Lines, k: usize, at: usize, n: usize) -> Lines
 }
 
 // What is known of the lines behind a byte of a value: it is filed where an LF ends it.
+#[tactic(auto, unfolding(crate::specs::Machine::filed))]
 fn file_value(lines: Lines, k: usize, at: usize, n: usize, b: u8) -> Lines
     ensures { result ≡ filed lines (Value k at n) b }
 {
@@ -344,6 +360,7 @@ fn file_value(lines: Lines, k: usize, at: usize, n: usize, b: u8) -> Lines
 }
 
 // What is known of the lines behind a byte.
+#[tactic(auto, unfolding(crate::specs::Machine::filed))]
 fn file(lines: Lines, state: State, b: u8) -> Lines
     ensures { result ≡ filed lines state b }
 {

@@ -8,10 +8,10 @@ use Rattle.std.specs.Borrow.{Bor}
 use denote.Triple.Clauses.{AtExit}
 use borrow.Fn.Claims.{AllOf}
 use borrow.Fn.World.{World, Pr, ArgsD, ResD}
-use borrow.Fn.Read.{Read, no_know, all_models, reads}
+use borrow.Fn.Read.{Read, no_know, all_models, r_last, r_top}
 use Rattle.settings.specs.declared.Spot.{Spot}
 use Rattle.settings.specs.Part.{IsPart}
-use Rattle.settings.specs.Asked.{spot_of}
+use Rattle.settings.specs.Asked.{asked, spot_of}
 use Rattle.sheet_promises.specs.HandedBack.{HandedBack, handed_back}
 use Rattle.sheet.proofs.scan_sheet.Reads as scan_sheet
 use Rattle.settings.proofs.ask.Reads as ask
@@ -36,7 +36,7 @@ ask_one κs x r r' u u' e e' = e ∙ sym e'
 pub one_part : (p : Spot) (local shared r r' : Bor (List ℕ)) → IsPart p local shared r → IsPart p local shared r' → (r.ref_ptr ≡ r'.ref_ptr) × (r.now ≡ r'.now)
 one_part p local shared r r' e e' = (e.place ∙ sym e'.place, e.bytes ∙ sym e'.bytes)
 
-pub value_of_one : (κs : _) (x : _) (r r' : _) (u u' : _) → value_of_lem.Learnt κs x r u → value_of_lem.Learnt κs x r' u' → (r.ref_ptr ≡ r'.ptr) × (r.now ≡ r'.now)
+pub value_of_one : (κs : _) (x : _) (r r' : _) (u u' : _) → value_of_lem.Learnt κs x r u → value_of_lem.Learnt κs x r' u' → (r.ref_ptr ≡ r'.ref_ptr) × (r.now ≡ r'.now)
 value_of_one κs x r r' u u' e e' = (e.place ∙ sym e'.place, e.bytes ∙ sym e'.bytes)
 
 -- of a call whose result holds a reference the kit makes no reading. Its clauses are read here, by the kit's own rules
@@ -45,14 +45,14 @@ module _ (κs : Lfts 1) (x : ArgsD look_up.signature κs) where
   clause r u w = (look_up.clauses w.𝓛 w.𝓜.mem w.𝓡.run κs x).ensures tt r u
 
   abbrev reading : (r : ResD look_up.signature κs) (u : AtExit look_up.ended κs) → Read (λ w. emp w.𝓤) no_know (clause r u)
-  reading r u = all_models (clause r u) (λ w. search reads) (λ w. refl) (λ w. refl) (λ w. refl)
+  reading r u = all_models (clause r u) (λ w. r_last (r.answer ≡ asked x.0.now x.1.0.now x.1.1.0 × IsPart (spot_of r.answer) x.0 x.1.0 r.bytes)) (λ w. refl) (λ w. refl) (λ w. refl)
 
   abbrev pub LookUpLearnt : ResD look_up.signature κs → AtExit look_up.ended κs → Type 0
   LookUpLearnt r u = AllOf (reading r u).tells
 
   -- the answer, where the part begins, and its bytes
   pub look_up_one :
-      (r r' : _) (u u' : _) → LookUpLearnt r u → LookUpLearnt r' u' → (r.answer ≡ r'.answer) × (r.bytes.ref_ptr ≡ r'.bytes.ptr) × (r.bytes.now ≡ r'.bytes.now)
+      (r r' : _) (u u' : _) → LookUpLearnt r u → LookUpLearnt r' u' → (r.answer ≡ r'.answer) × (r.bytes.ref_ptr ≡ r'.bytes.ref_ptr) × (r.bytes.now ≡ r'.bytes.now)
   look_up_one r r' u u' e e' =
       let same = e.0 ∙ sym e'.0 in
       let part = one_part (spot_of r'.answer) x.0 x.1.0 r.bytes r'.bytes (rw same at e.1) e'.1 in
@@ -66,15 +66,15 @@ module _ (κs : Lfts 1) (x : ArgsD look_up.signature κs) where
   condition w = (look_up.clauses w.𝓛 w.𝓜.mem w.𝓡.run κs x).requires tt
 
   abbrev needed : Read (λ w. emp w.𝓤) no_know condition
-  needed = all_models condition (λ w. search reads) (λ w. refl) (λ w. refl) (λ w. refl)
+  needed = all_models condition (λ w. r_top) (λ w. refl) (λ w. refl) (λ w. refl)
 
   pub any_look_up : AllOf needed.owes
   any_look_up = tt
 
 -- ---- stores
 
-pub add-one : (κs : _) (x : _) (r r' : _) (u u' : _) → adding.Learnt κs x r u → adding.Learnt κs x r' u' → r ≡ r'
-add-one κs x r r' u u' e e' = e ∙ sym e'
+pub add_one : (κs : _) (x : _) (r r' : _) (u u' : _) → adding.Learnt κs x r u → adding.Learnt κs x r' u' → r ≡ r'
+add_one κs x r r' u u' e e' = e ∙ sym e'
 
 -- with the buffer that a sheet is copied into
 pub copy_out_one : (κs : _) (x : _) (r r' : _) (u u' : _) → copy_out.Learnt κs x r u → copy_out.Learnt κs x r' u' → (r ≡ r') × (u.1.1.0.now ≡ u'.1.1.0.now)

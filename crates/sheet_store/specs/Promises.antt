@@ -1,6 +1,6 @@
 -- What the store promises. The contracts of add and copy_out are equations, `r ≡ added store sheet` and `copied store edition buffer`; what that means is said here by sheet/specs/Sheet
 -- and by the texts that a store holds (`Shelf`, oldest first).
-use Rattle.std.specs.Prelude.{ℕ, zero, suc, ◌+◌, ◌≤◌, ◌<◌, ◌≡◌, Bool, List, [], ◌∷◌, ◌++◌, ◌↔◌, leb, length, get_or, take, drop}
+use Rattle.std.specs.Prelude.{ℕ, zero, suc, ◌≤◌, ◌<◌, ◌≡◌, Bool, List, [], ◌∷◌, ◌++◌, ◌↔◌, leb, length, get_or, take, drop}
 use Rattle.std.proofs.Math.Path.{refl, ap}
 use Rattle.std.proofs.Common.{◌∙◌, arith, get_or-take}
 use Rattle.std.proofs.Math.Bool.{true, false, cond}

@@ -82,6 +82,8 @@ keeps_more (more_kept j r) k = more_kept j (keeps_more r k)
 keeps_drop : (ks : List Kept) (ts : List (List ℕ)) → Keeps ks ts → Keeps (drop 1 ks) (drop 1 ts)
 keeps_drop [] [] none_kept = none_kept
 keeps_drop (k ∷ ks) (s ∷ ts) (more_kept j r) = r
+keeps_drop [] (s ∷ ts) x = elim x [ ]
+keeps_drop (k ∷ ks) [] x = elim x [ ]
 
 keeps_length : {ks : List Kept} {ts : List (List ℕ)} → Keeps ks ts → length ks ≡ length ts
 keeps_length none_kept = refl
@@ -93,6 +95,8 @@ unfolding newest_from
 newest_kept n k [] (s ∷ []) (more_kept j none_kept) = kept_edition k s j
 newest_kept n k [] (s ∷ t ∷ ts) (more_kept j r) = absurd (omega (arith, keeps_length r))
 newest_kept n k (l ∷ ks) (s ∷ ts) (more_kept j r) = newest_kept (edition_of s) l ks ts r
+newest_kept n k [] [] x = elim x [ ]
+newest_kept n k (l ∷ ks) [] x = elim x [ ]
 
 -- where an edition is
 place_kept :
@@ -115,6 +119,8 @@ place_lacks : (e : ℕ) (ks : List Kept) (ts : List (List ℕ)) → Keeps ks ts 
 unfolding place_of
 place_lacks e [] [] none_kept l = refl
 place_lacks e (k ∷ ks) (s ∷ ts) (more_kept j r) (more_lacks h l) = rw (ne_eqb (edition_in k) e (λ f. h (sym (kept_edition k s j) ∙ f))) (ap suc (place_lacks e ks ts r l))
+place_lacks e [] (s ∷ ts) x l = elim x [ ]
+place_lacks e (k ∷ ks) [] x l = elim x [ ]
 
 -- ---- a store
 

@@ -74,6 +74,7 @@ pub enum Copied {
 }
 
 // Whether a store counts more than it may: more than eight sheets, or a sheet of more than 1,024 bytes. No call makes such a store, but any may be handed in.
+#[tactic(auto, using(crate::specs::Laws::long_here, crate::specs::Laws::long_on, crate::specs::Laws::long_end, crate::proofs::Full::full, std::proofs::lemmas::Grind::common_steps), unfolding(crate::specs::Store::overfull_of))]
 fn overfull(store: Store) -> bool
     ensures { result ≡ overfull_of store }
 {
@@ -93,6 +94,7 @@ fn overfull(store: Store) -> bool
 }
 
 // The edition number of a kept sheet; 0 where it is no sheet or names none.
+#[tactic(auto, unfolding(crate::specs::Store::edition_in))]
 fn edition_of(kept: Kept) -> usize
     ensures { result ≡ edition_in kept }
 {
@@ -109,6 +111,7 @@ fn edition_of(kept: Kept) -> usize
 }
 
 // A sheet of at most 1,024 bytes as it is kept: zeros behind its bytes.
+#[tactic(auto, unfolding(crate::specs::Store::kept_of))]
 fn keep(sheet: &[u8]) -> Kept
     requires { length sheet.now ≤ 1024 }
     ensures { result ≡ kept_of sheet.now }
@@ -126,6 +129,7 @@ fn keep(sheet: &[u8]) -> Kept
 }
 
 // The sheets without the oldest; the last place is free.
+#[tactic(auto, using(crate::specs::Laws::slid_turn, crate::proofs::Full::full, std::proofs::lemmas::Grind::common_steps), unfolding(crate::specs::Store::dropped))]
 fn drop_oldest(store: Store) -> Store
     ensures { result ≡ dropped store }
 {
@@ -140,6 +144,7 @@ fn drop_oldest(store: Store) -> Store
 }
 
 // The store with one sheet more, where there is room.
+#[tactic(auto, unfolding(crate::specs::Store::pushed))]
 fn push(store: Store, kept: Kept) -> Store
     requires { store.count < 8 }
     ensures { result ≡ pushed store kept }
@@ -154,6 +159,7 @@ fn push(store: Store, kept: Kept) -> Store
 }
 
 // The newest edition, 0 where the store is empty.
+#[tactic(auto, unfolding(crate::specs::Store::newest_of))]
 fn newest(store: Store) -> usize
     requires { store.count ≤ 8 }
     ensures { result ≡ newest_of store }
@@ -187,6 +193,7 @@ fn accept(store: Store) -> Added
 }
 
 // A sheet of which the edition's number is known, 0: none.
+#[tactic(auto, using(std::proofs::lemmas::Grind::common_steps), unfolding(crate::specs::Store::added_by, crate::specs::Store::dropped))]
 fn add_edition(store: Store, sheet: &[u8], number: usize) -> Added
     requires { (store.count ≤ 8) × (length sheet.now ≤ 1024) }
     ensures { result ≡ added_by store sheet.now number }
@@ -205,6 +212,7 @@ fn add_edition(store: Store, sheet: &[u8], number: usize) -> Added
 
 // Keeps a sheet. Refused by 9 if the store counts more than it may, 18 (sheet 1), 17 without an edition, 19 where the newest is not older; of eight the oldest goes.
 // With a refusal the store comes back as it was.
+#[tactic(auto, using(crate::specs::Laws::scan_short, crate::specs::Laws::fits_count, std::proofs::lemmas::Grind::common_steps), unfolding(crate::specs::Store::added))]
 pub fn add(store: Store, sheet: &[u8]) -> Added
     ensures { result ≡ added store sheet.now }
 {
@@ -219,6 +227,7 @@ pub fn add(store: Store, sheet: &[u8]) -> Added
 }
 
 // The first kept sheet of that edition, and how many are kept where there is none.
+#[tactic(auto, using(crate::specs::Laws::place_here, crate::specs::Laws::place_on, crate::specs::Laws::place_end, crate::proofs::Full::full, std::proofs::lemmas::Grind::common_steps))]
 fn find(store: Store, edition: usize) -> usize
     requires { store.count ≤ 8 }
     ensures { result ≡ place_of edition (take store.count store.sheets) }
@@ -247,6 +256,7 @@ fn no_copy(kind: Kind) -> Copied
 }
 
 // A kept sheet into a buffer that may be too short.
+#[tactic(auto, using(crate::specs::Laws::over_turn, std::proofs::lemmas::Grind::common_steps))]
 fn copy_kept(kept: Kept, buffer: &mut [u8]) -> Copied
     requires { kept.len ≤ 1024 }
     ensures answer { result ≡ (copied_kept kept buffer.old).answer }
@@ -266,6 +276,7 @@ fn copy_kept(kept: Kept, buffer: &mut [u8]) -> Copied
 }
 
 // Copies out the sheet of an edition. Refused by 9 if the store counts more than it may, 20 if that edition is not kept, 11 if the buffer is shorter than the sheet.
+#[tactic(auto, using(crate::specs::Laws::found_short, crate::specs::Laws::fits_count, crate::proofs::Full::full, std::proofs::lemmas::Grind::common_steps), unfolding(crate::specs::Store::copied))]
 pub fn copy_out(store: Store, edition: usize, buffer: &mut [u8]) -> Copied
     ensures answer { result ≡ (copied store edition buffer.old).answer }
     ensures buffer { buffer.new ≡ (copied store edition buffer.old).buffer }

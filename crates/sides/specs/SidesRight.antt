@@ -1,5 +1,5 @@
 -- With what an accepted rule says, the sides are those of the model.
-use Prim.Native.Nat.{ℕ, zero, suc, ◌+◌, ◌-◌, ◌^◌, ◌≤◌, ◌<◌}
+use Prim.Native.Nat.{ℕ, zero, suc, ◌+◌, ◌^◌, ◌≤◌, ◌<◌}
 use Rattle.std.proofs.Math.Numerals.{add-one}
 use Rattle.std.proofs.Common.{arith, lt_of_lt_of_le, ◌∙◌, lt-ltb, le-ltb}
 use Rattle.std.proofs.Math.Decide.{dec_lt}

@@ -55,6 +55,7 @@ pub fn kept(monitor: Monitor, live: &[u64; 64], agree: u64) -> Monitor
 }
 
 // A move: the image of both sets.
+#[tactic(auto, unfolding(crate::specs::Sides::moved_by))]
 pub fn moved<'a>(
     next: &[u64],
     leave: &'a [u64; 1024],

@@ -15,6 +15,7 @@ use sides::{Monitor, opening};
 use syntax::Rule;
 
 // The opening has no use for moves, so only where the rule holds is worked out for it.
+#[tactic(auto, unfolding(ways::specs::Ways::ways_of))]
 pub fn opened(start: u64, label: &[u16], rule: Rule, live: Pairs) -> Monitor
     requires { Ready label.now rule }
     ensures { result ≡ opened_by start (ways_of label.now rule).holds live.words }
@@ -24,6 +25,7 @@ pub fn opened(start: u64, label: &[u16], rule: Rule, live: Pairs) -> Monitor
 }
 
 // A move, behind those that are missing.
+#[tactic(auto, using(ways::specs::Ways::few_ways))]
 fn moved(
     label: &[u16],
     next: &[u64],
@@ -60,6 +62,7 @@ fn moved(
 }
 
 // A restart, behind those that are missing: what it asks of the rule has in it what a move asks.
+#[tactic(auto, using(ways::specs::Ways::few_ways))]
 fn restarted(
     label: &[u16],
     next: &[u64],
@@ -97,6 +100,7 @@ fn restarted(
 }
 
 // The cases are those of `advance::advance`. Before the first event nothing is missing.
+#[tactic(auto, using(sides::specs::SidesRight::came_new, sides::specs::SidesRight::came_next, sides::specs::SidesRight::came_first))]
 fn came(
     label: &[u16],
     next: &[u64],

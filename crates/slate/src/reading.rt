@@ -9,6 +9,7 @@ use sides::Monitor;
 use syntax::{Node, Op, Rule};
 
 // Whether a word can stand at a place: a label has 16 bits, a node one of 267 codes, and whether an event came is 0 or 1. All other fields have 64 bits.
+#[tactic(auto, unfolding(crate::specs::Box::can_be))]
 fn can_be(at: usize, word: u64) -> bool
     ensures { result ≡ can_be at word }
 {
@@ -42,6 +43,7 @@ fn fits(words: [u64; 384]) -> bool
 }
 
 // The operator of a code: eleven, and behind them the propositions.
+#[tactic(auto, unfolding(crate::specs::Box::op_of))]
 fn op_of(code: u64) -> Op
     ensures { result ≡ op_of code }
 {
@@ -124,6 +126,7 @@ fn table_in(words: [u64; 384]) -> Table
     }
 }
 
+#[tactic(auto, unfolding(crate::specs::Box::rule_in))]
 fn rule_in(words: [u64; 384]) -> Rule
     ensures { result ≡ rule_in words }
 {
@@ -133,6 +136,7 @@ fn rule_in(words: [u64; 384]) -> Rule
     }
 }
 
+#[tactic(auto, unfolding(crate::specs::Box::monitor_in))]
 fn monitor_in(words: [u64; 384]) -> Monitor
     ensures { result ≡ monitor_in words }
 {
@@ -151,6 +155,7 @@ fn monitor_in(words: [u64; 384]) -> Monitor
 }
 
 // All that a box holds.
+#[tactic(auto, unfolding(crate::specs::Box::held_in))]
 pub fn held_in(words: [u64; 384]) -> Held
     ensures { result ≡ held_in words }
 {

@@ -27,6 +27,7 @@ fn code_of(op: Op) -> u64
     }
 }
 
+#[tactic(auto, unfolding(crate::specs::Box::plant_word))]
 fn plant_word(plant: Plant, at: usize) -> u64
     ensures { result ≡ plant_word plant at }
 {
@@ -42,6 +43,7 @@ fn plant_word(plant: Plant, at: usize) -> u64
     plant.just as u64
 }
 
+#[tactic(auto, unfolding(crate::specs::Box::table_word))]
 fn table_word(table: Table, at: usize) -> u64
     requires { at < 136 }
     ensures { result ≡ table_word table at }
@@ -60,6 +62,7 @@ fn table_word(table: Table, at: usize) -> u64
 }
 
 // From the rule's length on.
+#[tactic(auto, unfolding(crate::specs::Box::rule_word))]
 fn rule_word(rule: Rule, at: usize) -> u64
     requires { at < 33 }
     ensures { result ≡ rule_word rule at }
@@ -73,6 +76,7 @@ fn rule_word(rule: Rule, at: usize) -> u64
 }
 
 // From whether an event came on. The sets are lent: a monitor handed over by value would be copied for each word.
+#[tactic(auto, unfolding(crate::specs::Box::monitor_word))]
 fn monitor_word<'a>(
     seen: bool,
     expected: u64,
@@ -95,6 +99,7 @@ fn monitor_word<'a>(
     breaks[at - 66]
 }
 
+#[tactic(auto, unfolding(crate::specs::Box::held_word))]
 fn held_word(held: Held, at: usize) -> u64
     ensures { result ≡ held_word held at }
 {

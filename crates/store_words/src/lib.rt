@@ -10,6 +10,7 @@ use sheet_store::{AddAnswer, Added, Copied, Kept, Store};
 use words::of_byte;
 
 // Byte k of a word.
+#[tactic(auto, using(crate::specs::Laws::byte_turn, crate::specs::Laws::byte_last))]
 fn byte_of(word: u64, k: usize) -> u8
     ensures { result ≡ byte_of word k }
 {
@@ -23,6 +24,7 @@ fn byte_of(word: u64, k: usize) -> u8
 }
 
 // Sheet i of a store in words.
+#[tactic(auto, using(words::specs::Lists::filled_none, words::specs::Lists::filled_turn, words::specs::Lists::filled_all, words::specs::Lists::length_filled, std::proofs::lemmas::Grind::common_steps), unfolding(crate::specs::Words::kept_in))]
 fn kept_at(words: [u64; 1040], i: usize) -> Kept
     requires { i < 8 }
     ensures { result ≡ kept_in words i }
@@ -41,6 +43,7 @@ fn kept_at(words: [u64; 1040], i: usize) -> Kept
 }
 
 // The store that the words are.
+#[tactic(auto, unfolding(crate::specs::Words::store_in))]
 pub fn store_of(words: [u64; 1040]) -> Store
     ensures { result ≡ store_in words }
 {
@@ -62,6 +65,7 @@ pub fn store_of(words: [u64; 1040]) -> Store
 }
 
 // Word k of a sheet's bytes.
+#[tactic(auto, unfolding(crate::specs::Words::packed, crate::specs::Words::pack_from))]
 fn word_at(bytes: [u8; 1024], k: usize) -> u64
     requires { k < 128 }
     ensures { result ≡ packed bytes k }
@@ -82,6 +86,7 @@ fn word_at(bytes: [u8; 1024], k: usize) -> u64
 }
 
 // Word p of a store.
+#[tactic(auto, unfolding(crate::specs::Words::word_of))]
 fn word_of(store: Store, p: usize) -> u64
     ensures { result ≡ word_of store p }
 {
@@ -101,6 +106,7 @@ fn word_of(store: Store, p: usize) -> u64
 }
 
 // The words of a store.
+#[tactic(auto, using(words::specs::Lists::filled_none, words::specs::Lists::filled_turn, words::specs::Lists::filled_all, words::specs::Lists::length_filled, std::proofs::lemmas::Grind::common_steps), unfolding(crate::specs::Words::words_of))]
 pub fn words_of(store: Store) -> [u64; 1040]
     ensures { result ≡ words_of store }
 {
@@ -114,6 +120,7 @@ pub fn words_of(store: Store) -> [u64; 1040]
 }
 
 // The words after an answer: those of the new store where the sheet is kept, the old ones where it is refused.
+#[tactic(auto, unfolding(crate::specs::Words::next_words))]
 fn next_words(words: [u64; 1040], made: Added) -> [u64; 1040]
     ensures { result ≡ next_words words made }
 {

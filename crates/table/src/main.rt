@@ -5,26 +5,25 @@ ghost use Rattle.std.specs.Prelude.{◌≤◌, length};
 ghost use Rattle.opened.specs.Lent.{Lent};
 
 use answers::{Outcome, Refusal};
-use libc::STDOUT_FILENO;
 use plant::{Table, TableRead};
 use plant_writer::{Length, Wrote};
 use program::given::read_plant;
-use program::said::refuse;
+use program::said::{put, refuse};
 
 // The folder that the argument names, or this one.
-fn main() {
-    let mut folder = io::buffer();
-    let len = files::asked_folder(&mut folder);
-    let read = read_plant(&folder[..len]);
+fn main(rt: HostRuntime) {
+    let mut folder = files::path_buffer();
+    let len = files::asked_folder(&rt, &mut folder);
+    let read = read_plant(&rt, &folder[..len]);
     let outcome = read.outcome;
     let table = read.table;
     match outcome {
-        Outcome::Refused(refusal) => refuse(refusal),
-        Outcome::Accepted => show_table(table),
+        Outcome::Refused(refusal) => refuse(&rt, refusal),
+        Outcome::Accepted => show_table(&rt, table),
     }
 }
 
-fn show_table(table: Table)
+fn show_table<P: Print>(to: &P, table: Table)
     requires { Lent table }
 {
     let plant = table.plant;
@@ -42,14 +41,13 @@ fn show_table(table: Table)
         &mut text,
     );
     match wrote {
-        Wrote::Refused(refusal) => refuse(refusal),
-        Wrote::Text(written) => show_text(&text, written),
+        Wrote::Refused(refusal) => refuse(to, refusal),
+        Wrote::Text(written) => show_text(to, &text, written),
     }
 }
 
-fn show_text(text: &[u8], written: Length)
+fn show_text<P: Print>(to: &P, text: &[u8], written: Length)
     requires { written.bytes ≤ length text.now }
 {
-    let len = written.bytes;
-    io::write_all(STDOUT_FILENO, &text[..len]);
+    put(to, &text[..written.bytes]);
 }

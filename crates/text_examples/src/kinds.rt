@@ -4,8 +4,10 @@
 ghost use Rattle.std.specs.Prelude.{◌≤◌};
 
 use crate::show;
-use crate::show::{digits, end, put, tell};
+use crate::show::{digits, end, tell};
 use answers::Outcome;
+use cases::find;
+use program::said::put;
 
 // The outcome of a text, a log's or a table's.
 fn outcome_of(text: &[u8], is_log: bool) -> Outcome {
@@ -17,17 +19,17 @@ fn outcome_of(text: &[u8], is_log: bool) -> Outcome {
     read.outcome
 }
 
-fn one(text: &[u8]) {
-    tell(outcome_of(text, false));
-    end();
+fn one<P: Print>(to: &P, text: &[u8]) {
+    tell(to, outcome_of(text, false));
+    end(to);
 }
 
-fn prefixes(text: &[u8], is_log: bool) {
+fn prefixes<P: Print>(to: &P, text: &[u8], is_log: bool) {
     let mut n = 0;
     while n < text.len() {
-        digits(n);
-        tell(outcome_of(&text[..n], is_log));
-        end();
+        digits(to, n);
+        tell(to, outcome_of(&text[..n], is_log));
+        end(to);
         n += 1;
     }
 }
@@ -51,50 +53,50 @@ fn at_most_256(n: usize) -> usize
     if n < 256 { n } else { 256 }
 }
 
-fn changed(text: &[u8], at: usize, byte: u8, is_log: bool) {
+fn changed<P: Print>(to: &P, text: &[u8], at: usize, byte: u8, is_log: bool) {
     let copy = with_byte(text, at, byte);
     let n = at_most_256(text.len());
-    tell(outcome_of(&copy[..n], is_log));
+    tell(to, outcome_of(&copy[..n], is_log));
 }
 
 // Each byte changed to the digit 9, and to one that stands in no text: the letter g, the byte 0, CR and the byte 255 in turn.
-fn changes(text: &[u8], is_log: bool) {
+fn changes<P: Print>(to: &P, text: &[u8], is_log: bool) {
     let strange = [b'g', 0, b'\r', 255];
     let mut at = 0;
     while at < text.len() {
-        digits(at);
-        changed(text, at, b'9', is_log);
-        changed(text, at, strange[at % 4], is_log);
-        end();
+        digits(to, at);
+        changed(to, text, at, b'9', is_log);
+        changed(to, text, at, strange[at % 4], is_log);
+        end(to);
         at += 1;
     }
 }
 
-fn case(kind: u8, text: &[u8]) {
-    put(b"-- ");
-    put(text);
-    end();
+fn case<P: Print>(to: &P, kind: u8, text: &[u8]) {
+    put(to, b"-- ");
+    put(to, text);
+    end(to);
     match kind {
-        b't' => one(text),
-        b'T' => show::table(text),
-        b'l' => show::log(text, 8),
-        b'L' => show::log(text, 9),
-        b'p' => prefixes(text, false),
-        b'c' => changes(text, false),
-        b'q' => prefixes(text, true),
-        b'd' => changes(text, true),
-        b'h' => show::handed(text),
-        b'e' => show::legal(text),
-        _ => put(b"no case\n"),
+        b't' => one(to, text),
+        b'T' => show::table(to, text),
+        b'l' => show::log(to, text, 8),
+        b'L' => show::log(to, text, 9),
+        b'p' => prefixes(to, text, false),
+        b'c' => changes(to, text, false),
+        b'q' => prefixes(to, text, true),
+        b'd' => changes(to, text, true),
+        b'h' => show::handed(to, text),
+        b'e' => show::legal(to, text),
+        _ => put(to, b"no case\n"),
     }
 }
 
-pub fn each(input: &[u8]) {
+pub fn each<P: Print>(to: &P, input: &[u8]) {
     let mut at = 0;
     while at < input.len() {
         let start = at + 1;
-        let end = bytes::scan::find(input, start, input.len(), b'#');
-        case(input[at], &input[start..end]);
+        let end = find(input, start, input.len(), b'#');
+        case(to, input[at], &input[start..end]);
         at = if end < input.len() { end + 1 } else { end };
     }
 }

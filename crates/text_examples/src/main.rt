@@ -4,10 +4,8 @@
 mod kinds;
 mod show;
 
-use libc::STDIN_FILENO;
-
-fn main() {
-    let mut input = io::large_buffer();
-    let n = io::read_full(STDIN_FILENO, &mut input);
-    kinds::each(&input[..n]);
+fn main(rt: HostRuntime) {
+    let mut input = [0u8; 65536];
+    let given = files::fill(&mut rt.stdin(), &mut input);
+    kinds::each(&rt, &input[..given.len]);
 }

@@ -6,18 +6,19 @@
 ghost use Rattle.std.specs.Prelude.{◌+◌, ◌<◌, ◌≤◌};
 
 use files::File;
-use libc::STDOUT_FILENO;
 use pairs::Pairs;
 use plant::Plant;
+use program::said::{put, put_decimal};
 use rule_text::RuleRead;
 use sides::Monitor;
+use std::rt::Files;
 use syntax::Rule;
 use walk::Lengths;
 use witness::Witnessed;
 
-fn main() {
+fn main(rt: HostRuntime) {
     let mut text = [0u8; File::PLANT];
-    let file = files::read_file(b"plant.txt", &mut text);
+    let file = files::read_file(&rt, b"plant.txt", &mut text);
     let len = file.len;
     let read = plant::read_table(&text[..len]);
     let table = read.table;
@@ -27,21 +28,30 @@ fn main() {
     let fair = table.fair;
     let label = table.label;
     let next = table.next;
-    with_table(plant, &fair[..just], &label[..states], &next[..states]);
+    with_table(&rt, plant, &fair[..just], &label[..states], &next[..states]);
 }
 
-fn with_table(plant: Plant, fair: &[u64], label: &[u16], next: &[u64]) {
+fn with_table<R: Files + Print>(rt: &R, plant: Plant, fair: &[u64], label: &[u16], next: &[u64]) {
     let mut text = [0u8; File::RULE];
-    let file = files::read_file(b"rule.txt", &mut text);
+    let file = files::read_file(rt, b"rule.txt", &mut text);
     let len = file.len;
     let read: RuleRead = rule::read_rule(plant, fair, label, next, &text[..len]);
     let rule = read.rule;
     let mut turns = [0u8; 47];
-    files::read_file(b"turns.txt", &mut turns);
-    prepare_often(number(&turns, 9), plant, fair, label, next, rule);
-    with_rule(number(&turns, 18), plant, fair, label, next, rule);
-    witness_often(number(&turns, 30), plant, fair, label, next, rule, true);
-    witness_often(number(&turns, 43), plant, fair, label, next, rule, false);
+    files::read_file(rt, b"turns.txt", &mut turns);
+    prepare_often(rt, number(&turns, 9), plant, fair, label, next, rule);
+    with_rule(rt, number(&turns, 18), plant, fair, label, next, rule);
+    witness_often(rt, number(&turns, 30), plant, fair, label, next, rule, true);
+    witness_often(
+        rt,
+        number(&turns, 43),
+        plant,
+        fair,
+        label,
+        next,
+        rule,
+        false,
+    );
 }
 
 // turns.txt is `prepares=DDD logs=DDD keeping=DDD breaking=DDD` and LF: three digits from `at` on.
@@ -57,7 +67,8 @@ fn digit(character: u8) -> usize
     (character % 16 % 10) as usize
 }
 
-fn prepare_often(
+fn prepare_often<P: Print>(
+    to: &P,
     turns: usize,
     plant: Plant,
     fair: &[u64],
@@ -68,17 +79,26 @@ fn prepare_often(
     let mut total: u64 = 0;
     for n in 0..turns {
         let prepared = live::prepare(plant, fair, label, next, rule);
-        total = std::num::wrapping_add_u64(total, digest(prepared.live));
+        total = total.wrapping_add(digest(prepared.live));
     }
-    show_number(total);
+    show_number(to, total);
 }
 
-fn with_rule(turns: usize, plant: Plant, fair: &[u64], label: &[u16], next: &[u64], rule: Rule) {
+fn with_rule<R: Files + Print>(
+    rt: &R,
+    turns: usize,
+    plant: Plant,
+    fair: &[u64],
+    label: &[u16],
+    next: &[u64],
+    rule: Rule,
+) {
     let mut text = [0u8; File::LOG];
-    let file = files::read_file(b"log.txt", &mut text);
+    let file = files::read_file(rt, b"log.txt", &mut text);
     let len = file.len;
     let prepared = live::prepare(plant, fair, label, next, rule);
     log_often(
+        rt,
         turns,
         plant,
         fair,
@@ -90,7 +110,8 @@ fn with_rule(turns: usize, plant: Plant, fair: &[u64], label: &[u16], next: &[u6
     );
 }
 
-fn log_often(
+fn log_often<P: Print>(
+    to: &P,
     turns: usize,
     plant: Plant,
     fair: &[u64],
@@ -103,10 +124,10 @@ fn log_often(
     let mut total: u64 = 0;
     for n in 0..turns {
         let monitor = run_log(plant, fair, label, next, rule, live, text);
-        total = std::num::wrapping_add_u64(total, digest(monitor.keeps));
-        total = std::num::wrapping_add_u64(total, digest(monitor.breaks));
+        total = total.wrapping_add(digest(monitor.keeps));
+        total = total.wrapping_add(digest(monitor.breaks));
     }
-    show_number(total);
+    show_number(to, total);
 }
 
 // Where the log ends.
@@ -133,14 +154,15 @@ fn run_log(
 fn digest(set: Pairs) -> u64 {
     let mut total: u64 = 0;
     for v in 0..64 {
-        total = std::num::wrapping_add_u64(total, total);
-        total = std::num::wrapping_add_u64(total, set.words[v]);
+        total = total.wrapping_add(total);
+        total = total.wrapping_add(set.words[v]);
     }
     total
 }
 
 // Witnesses of the asked kind, for the monitor as it opens.
-fn witness_often(
+fn witness_often<P: Print>(
+    to: &P,
     turns: usize,
     plant: Plant,
     fair: &[u64],
@@ -155,9 +177,9 @@ fn witness_often(
     let mut total: u64 = 0;
     for n in 0..turns {
         let run = ask(plant, fair, label, next, rule, monitor, keeps);
-        total = std::num::wrapping_add_u64(total, run);
+        total = total.wrapping_add(run);
     }
-    show_number(total);
+    show_number(to, total);
 }
 
 // A number for a witness: 0 where there is none.
@@ -180,14 +202,14 @@ fn ask(
 
 // As many bytes as the stem and the loop have states; the stem's length counts too.
 fn digest_states(stem: usize, turn: usize, bytes: &[u8; Lengths::ROOM]) -> u64 {
-    let written = std::num::wrapping_add_usize(stem, turn);
+    let written = stem.wrapping_add(turn);
     let mut total = stem as u64;
     for i in 0..Lengths::ROOM {
         if i == written {
             break;
         }
-        total = std::num::wrapping_add_u64(total, total);
-        total = std::num::wrapping_add_u64(total, wide(bytes[i]));
+        total = total.wrapping_add(total);
+        total = total.wrapping_add(wide(bytes[i]));
     }
     total
 }
@@ -196,9 +218,7 @@ fn wide(byte: u8) -> u64 {
     byte as u64
 }
 
-fn show_number(n: u64) {
-    let mut text = [0u8; 20];
-    let len = io::decimal(n, &mut text);
-    io::write_all(STDOUT_FILENO, &text[..len]);
-    io::write_all(STDOUT_FILENO, b"\n");
+fn show_number<P: Print>(to: &P, n: u64) {
+    put_decimal(to, n);
+    put(to, b"\n");
 }

@@ -1,7 +1,7 @@
 // Answers as a C program has them: four numbers. Each function tells what a call answers, and what it does not name is 0.
 #![tactic(auto)]
 
-mod machines;
+mod machine_calls;
 mod reports;
 mod sheets;
 mod texts;
@@ -13,7 +13,7 @@ ghost use Rattle.told.specs.Told.{refused_by, stopped_by, shown_as, heard_as, en
 use answers::{Answer as Shown, Outcome, Refusal};
 use closing::Closed;
 use controller::{LogAnswer, Stop};
-pub use machines::{looked, looked_through, made};
+pub use machine_calls::{looked, looked_through, made};
 pub use reports::judged;
 pub use sheets::{asked, copied, held, sheet_refused};
 pub use texts::{sheet_written, table_written};

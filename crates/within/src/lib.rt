@@ -10,6 +10,7 @@ use node_value::{carry_at, guess, pushed, value_at};
 use syntax::Rule;
 
 // What each node hands on where no event lies ahead.
+#[tactic(auto, using(words::specs::Unions::word_none, words::specs::Unions::word_more))]
 pub fn guesses(rule: Rule) -> u64
     requires { rule.len ≤ 32 }
     ensures { result ≡ guesses_of rule.nodes rule.len }
@@ -32,6 +33,7 @@ pub struct Values {
 }
 
 // One event more, before those that hand on `ahead`.
+#[tactic(auto, using(words::specs::Unions::word_none, crate::specs::Turns::stack_turn, crate::specs::Turns::carries_turn), unfolding(crate::specs::Turn::stack_after))]
 pub fn turn(rule: Rule, label: u64, ahead: u64) -> Values
     requires { rule.len ≤ 32 }
     ensures { (result.stack ≡ stack_after rule.nodes label ahead rule.len) × (result.ahead ≡ carries_after rule.nodes label ahead rule.len) }

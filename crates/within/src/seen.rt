@@ -37,6 +37,7 @@ fn prop_set(op: Op) -> u64
 }
 
 // The propositions of a rule.
+#[tactic(auto, unfolding(words::specs::Below::union_below, crate::specs::Props::props_of))]
 pub fn props_of(rule: Rule) -> u64
     requires { rule.len ≤ 32 }
     ensures { result ≡ props_of rule }
@@ -52,6 +53,7 @@ pub fn props_of(rule: Rule) -> u64
 }
 
 // Whether an event that saw `see` saw them all.
+#[tactic(auto, unfolding(crate::specs::Props::sees_all))]
 pub fn sees_all(props: u64, see: u16) -> bool
     ensures { result ≡ sees_all props see }
 {

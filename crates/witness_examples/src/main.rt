@@ -7,7 +7,7 @@ use rule_text::RuleRead;
 use syntax::Rule;
 
 // Plant W (01, The plant table), whose fairness sets and moves an example may change.
-fn show(name: &[u8], fair: &[u64], next: &[u64], text: &[u8], events: &[u8]) {
+fn show<P: Print>(to: &P, name: &[u8], fair: &[u64], next: &[u64], text: &[u8], events: &[u8]) {
     let plant = Plant {
         props: 2,
         states: 3,
@@ -19,79 +19,84 @@ fn show(name: &[u8], fair: &[u64], next: &[u64], text: &[u8], events: &[u8]) {
     let rule: Rule = read.rule;
     let outcome: Outcome = read.outcome;
     if let Outcome::Accepted = outcome {
-        outlook::show_end(name, plant, fair, &label, next, rule, events);
+        outlook::show_end(to, name, plant, fair, &label, next, rule, events);
     }
 }
 
-fn on_w(name: &[u8], text: &[u8], events: &[u8]) {
+fn on_w<P: Print>(to: &P, name: &[u8], text: &[u8], events: &[u8]) {
     let fair = [0u64];
     let next = [3u64, 6, 5];
-    show(name, &fair[..0], &next, text, events);
+    show(to, name, &fair[..0], &next, text, events);
 }
 
-fn without_events() {
-    on_w(b"M1 start ", b"1", b"");
-    on_w(b"M2 start ", b"G(p0->Fp1)", b"");
+fn without_events<P: Print>(to: &P) {
+    on_w(to, b"M1 start ", b"1", b"");
+    on_w(to, b"M2 start ", b"G(p0->Fp1)", b"");
     let fair = [5u64];
     let next = [3u64, 6, 5];
-    show(b"M3 start ", &fair, &next, b"G(p0->Fp1)", b"");
+    show(to, b"M3 start ", &fair, &next, b"G(p0->Fp1)", b"");
 }
 
-fn three_events() {
+fn three_events<P: Print>(to: &P) {
     let events = b"see=03 val=00 new=0\nsee=03 val=01 new=0\nsee=03 val=02 new=0\n";
-    on_w(b"M4 start ", b"Fp1", b"");
-    on_w(b"M4 n=2 ", b"Fp1", events);
-    on_w(b"M5 start ", b"G!p1", b"");
-    on_w(b"M5 n=2 ", b"G!p1", events);
+    on_w(to, b"M4 start ", b"Fp1", b"");
+    on_w(to, b"M4 n=2 ", b"Fp1", events);
+    on_w(to, b"M5 start ", b"G!p1", b"");
+    on_w(to, b"M5 n=2 ", b"G!p1", events);
 }
 
-fn two_events() {
-    on_w(b"M6 start ", b"p0R!p1", b"");
-    on_w(b"M7 start ", b"Xp0", b"");
+fn two_events<P: Print>(to: &P) {
+    on_w(to, b"M6 start ", b"p0R!p1", b"");
+    on_w(to, b"M7 start ", b"Xp0", b"");
     on_w(
+        to,
         b"M7 n=1 ",
         b"Xp0",
         b"see=03 val=00 new=0\nsee=03 val=00 new=0\n",
     );
-    on_w(b"M8 start ", b"Fp1", b"");
+    on_w(to, b"M8 start ", b"Fp1", b"");
     on_w(
+        to,
         b"M8 n=1 ",
         b"Fp1",
         b"see=03 val=00 new=0\nsee=03 val=03 new=0\n",
     );
 }
 
-fn restart_and_dead_ends() {
-    on_w(b"M9 start ", b"Fp1", b"");
+fn restart_and_dead_ends<P: Print>(to: &P) {
+    on_w(to, b"M9 start ", b"Fp1", b"");
     on_w(
+        to,
         b"M9 n=2 ",
         b"Fp1",
         b"see=03 val=00 new=0\nsee=03 val=03 new=0\nsee=03 val=00 new=1\n",
     );
     let fair = [0u64];
     let next = [0u64, 0, 0];
-    show(b"M10 start ", &fair[..0], &next, b"1", b"");
+    show(to, b"M10 start ", &fair[..0], &next, b"1", b"");
 }
 
-fn program_example() {
-    on_w(b"P start ", b"Fp0", b"");
-    on_w(b"P n=0 ", b"Fp0", b"see=03 val=00 new=0\n");
+fn program_example<P: Print>(to: &P) {
+    on_w(to, b"P start ", b"Fp0", b"");
+    on_w(to, b"P n=0 ", b"Fp0", b"see=03 val=00 new=0\n");
     on_w(
+        to,
         b"P n=1 ",
         b"Fp0",
         b"see=03 val=00 new=0\nsee=00 val=00 new=0\n",
     );
     on_w(
+        to,
         b"P n=2 ",
         b"Fp0",
         b"see=03 val=00 new=0\nsee=00 val=00 new=0\nsee=02 val=02 new=0\n",
     );
 }
 
-fn main() {
-    without_events();
-    three_events();
-    two_events();
-    restart_and_dead_ends();
-    program_example();
+fn main(rt: HostRuntime) {
+    without_events(&rt);
+    three_events(&rt);
+    two_events(&rt);
+    restart_and_dead_ends(&rt);
+    program_example(&rt);
 }

@@ -1,0 +1,16 @@
+-- `check_held`: by what `look` answers. Assumes nothing.
+use Rattle.std.proofs.Common.{rules}
+use Rattle.scraps.specs.Laws.{held_refused, held_shown}
+use Rattle.scraps.proofs.check_held.Goals as goal
+
+pub returns-in-Refused : goal.returns-in-Refused
+returns-in-Refused c =
+    let a = c.args in
+    held_refused a.plant a.fair.now a.label.now a.next.now a.rule a.live a.monitor (search rules) (search rules)
+    c.join.ensures c.look-shown.ensures c.in-Refused.is
+
+pub returns-in-Shown : goal.returns-in-Shown
+returns-in-Shown c =
+    let a = c.args in
+    held_shown a.plant a.fair.now a.label.now a.next.now a.rule a.live a.monitor (search rules) (search rules)
+    c.join.ensures c.look-shown.ensures c.in-Shown.is

@@ -1,0 +1,11 @@
+-- `nexts_of`: `found` has the parts passed that are X.
+use Prim.Native.Nat.{◌-◌, zero-le}
+use native.Mathlib.Omega.{arith}
+use Rattle.words.specs.Unions.{word_none, word_more}
+use Rattle.shape.proofs.nexts_of.Goals as goal
+
+pub loop-k-init : goal.loop-k-init
+loop-k-init c = (zero-le, word_none _)
+
+pub loop-k-preserved : goal.loop-k-preserved
+loop-k-preserved c = (omega arith, rw word_more (cc))

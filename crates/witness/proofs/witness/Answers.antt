@@ -1,0 +1,22 @@
+-- `witness`: the checks in turn, and behind them the run.
+use Rattle.std.proofs.Common.{rules}
+use Rattle.witness.proofs.Given.{not_asked, in_order, answered}
+use Rattle.witness.proofs.witness.Goals as goal
+
+pub write_run-requires : goal.write_run-requires
+write_run-requires c =
+    let a = c.args in
+    in_order a.plant a.fair.now a.label.now a.next.now a.rule a.monitor (search rules) a.keeps a.buffer.now
+    c.check_asked-outcome.ensures c.in-Accepted.is
+
+pub returns-in-Refused : goal.returns-in-Refused
+returns-in-Refused c =
+    let a = c.args in
+    not_asked a.plant a.fair.now a.label.now a.next.now a.rule a.monitor (search rules) a.keeps a.buffer.now
+    c.check_asked-outcome.ensures c.in-Refused.is
+
+pub returns-in-Accepted : goal.returns-in-Accepted
+returns-in-Accepted c =
+    let a = c.args in
+    answered a.plant a.fair.now a.label.now a.next.now a.rule a.monitor (search rules) a.keeps a.buffer.now
+    c.check_asked-outcome.ensures c.in-Accepted.is _ _ c.side-asked.ensures c.write_run.ensures
