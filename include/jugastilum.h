@@ -1,6 +1,6 @@
 /* Jugastilum for C programs: a watcher of a plant by a rule in linear temporal logic.
 
-   Link with libjugastilum.a (`rt staticlib jugastilum`). No function allocates, keeps a pointer or reads a clock: all that is kept between calls stands
+   Link with libjugastilum.a (`tools/build jugastilum`). No function allocates, keeps a pointer or reads a clock: all that is kept between calls stands
    in a box of the caller's. docs/CONTROLLER.md tells how to build, what each answer means and how much stack a call takes.
 
    The functions are proved; that this header fits them is not. tests/c compares the two, function by function. */

@@ -542,7 +542,7 @@ def main():
     seed = sys.argv[1] if len(sys.argv) > 1 else '28'
     for name in ('watch', 'runs', 'table', 'machine', 'day', 'judge'):
         if not program.is_built(name):
-            fail('target/bin/%s is not there: build it first' % name)
+            fail('target/bin/%s is not there: tools/build %s' % (name, name))
     with tempfile.TemporaryDirectory() as room:
         try_refusals(room)
         try_places(room, seed)

@@ -5,7 +5,7 @@ that file defines the name.
 A row of docs/PROMISES.md whose last cell names files, as `plant/specs/Promises; text/specs`: each `name` in the cell before it is defined in one of them.
 A row of its table of the paper's sentences (what the paper says, definition, theorem, edits): in the second and the third cell each part up to a `;` has its
 names and then the files, and each name is defined in one of these. Each edit of the fourth, as `crate/edit`, is there, and where none is named stands why.
-The edits of any other table whose last heading says so are there too, and are such as the gate tries.
+The edits of any other table whose last heading says so are there too. The gate tries all of them.
 A name `Type::NAME` or `crate::name` on any page but the landings, which tell of former times, is one of the sources.
 """
 import glob
@@ -14,7 +14,7 @@ import re
 import sys
 
 PAGES = ['README.md', 'CONTRIBUTING.md', 'tests/README.md'] + sorted(glob.glob('docs/*.md'))
-KIT = ['io', 'libc', 'os']
+KIT = ['io', 'std', 'fs']
 SENTENCES = ['what the paper says', 'definition', 'theorem on the calls', 'edits']
 
 
@@ -98,11 +98,11 @@ def named(page, cell):
             yield from stand(page, part[part.rindex(groups[-1][1]) + len(groups[-1][1]):], places(groups[-1][1]))
 
 
-def edits(page, cell, long=False):
-    """What is wrong in a cell of edits: each is there, and is no long one unless it may be."""
+def edits(page, cell):
+    """What is wrong in a cell of edits: each is there."""
     for edit in re.findall(r'\b([a-z_]+)/([a-z_0-9]+)', cell):
-        if not os.path.exists('crates/%s/must-fail/%s.edit' % edit) and not (long and os.path.exists('crates/%s/must-fail/long/%s.edit' % edit)):
-            yield '%s: there is no edit %s/%s%s' % (page, *edit, '' if long else ' that the gate tries')
+        if not os.path.exists('crates/%s/must-fail/%s.edit' % edit):
+            yield '%s: there is no edit %s/%s' % (page, *edit)
 
 
 def sentence(page, cells):
@@ -114,7 +114,7 @@ def sentence(page, cells):
         return
     yield from named(page, cells[1])
     yield from named(page, cells[2])
-    yield from edits(page, cells[3], long=True)
+    yield from edits(page, cells[3])
     if cells[3] == '-':
         yield '%s: no edit, and no ground: %s' % (page, cells[0])
 

@@ -268,7 +268,7 @@ def made(folder, files):
 def try_programs(room, seed):
     """What is written is taken by the proved reader: no refusal of plant, rule or log."""
     if not program.is_built('watch'):
-        fail('target/bin/watch is not there: build it first')
+        fail('target/bin/watch is not there: tools/build watch')
     for k in range(12):
         dice = thrown.dice('%s programs %d' % (seed, k))
         plant = thrown.plant(dice, states=[1, 3, 20, 64][k % 4], props=[1, 4, 9, 16][k // 3])

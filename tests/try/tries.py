@@ -297,7 +297,7 @@ def try_refused(room):
     if program.is_built('machine'):
         asked(1, 'The plant has 4 signals', sluice, page)
     else:
-        asked(1, 'rt check machine', turbine, page)
+        asked(1, 'tools/build machine', turbine, page)
     if os.path.exists(page):
         fail('a page is written where there is no machine')
 

@@ -24,16 +24,19 @@ def is_built(program):
 
 
 def building(program):
-    """What to type to have a program. The kit builds the project in which it is started."""
+    """What to type to have a program."""
     here = os.path.realpath(os.curdir) == os.path.realpath(HOME)
-    return 'rt check %s' % program if here else 'cd %s && rt check %s' % (shlex.quote(HOME), program)
+    return '%s %s' % ('tools/build' if here else shlex.quote(os.path.join(HOME, 'tools', 'build')), program)
 
 
 def run(program, folder):
     """What a program writes on a folder."""
     if not is_built(program):
         raise Trouble('the program target/bin/%s is not there. This proves and builds it; the first time it takes some minutes:\n    %s' % (program, building(program)))
-    done = subprocess.run([os.path.join(HOME, 'tests', 'launch'), path_of(program), os.path.abspath(folder)], stdout=subprocess.PIPE, stderr=subprocess.PIPE, check=False)
+    words, folder = [os.path.join(HOME, 'tests', 'launch'), path_of(program)], os.path.abspath(folder)
+    # A program takes a path that is UTF-8 alone. Where the folder's name is not, it is started there.
+    is_text = not any('\udc80' <= sign <= '\udcff' for sign in folder)
+    done = subprocess.run(words + [folder] * is_text, cwd=None if is_text else folder, stdout=subprocess.PIPE, stderr=subprocess.PIPE, check=False)
     if done.returncode or done.stderr:
         raise Trouble('the program %s could not be run here: %s' % (program, done.stderr.decode('utf-8', 'replace').strip() or 'status %d' % done.returncode))
     return done.stdout.decode('ascii')
