@@ -17,7 +17,7 @@ use Rattle.meaning.specs.Event as meaning
 use Rattle.pairs.specs.declared.Pairs.{Pairs}
 use Rattle.model.specs.Sets.{PairSet}
 use Rattle.model.specs.Monitor as model
-use Rattle.model.specs.Rule.{opening_sets}
+use Rattle.model.proofs.Rule.{opening_sets}
 use Rattle.answers.specs.declared.Kind.TheVariants.{IllegalEvent, Stretches, Number as NumberKind}
 use Rattle.answers.specs.declared.Refusal.{Refusal}
 use Rattle.answers.specs.declared.Lamp.{Lamp}

@@ -8,8 +8,8 @@ use Rattle.meaning.specs.Formula.{Formula}
 use Rattle.meaning.specs.Run as run
 use Rattle.model.specs.Sets.{PairSet}
 use Rattle.model.specs.LiveSet.{live_set}
-use Rattle.model.specs.Lives.{live_set_lem}
-use Rattle.model.specs.Rule.{opening_sets, step_sets}
+use Rattle.model.proofs.Lives.{live_set_lem}
+use Rattle.model.proofs.Rule.{opening_sets, step_sets}
 use Rattle.model.specs.Monitor as model
 use Rattle.answers.specs.declared.Kind.TheVariants.{Counts, Room}
 use Rattle.answers.specs.declared.Outcome.{Outcome}

@@ -11,7 +11,7 @@ use Rattle.meaning.specs.Formula.{Formula, parts}
 use Rattle.meaning.specs.Run.{Plant}
 use Rattle.meaning.specs.Limits.{AcceptedTable, Small}
 use Rattle.theory.specs.Parts.{part_of}
-use Rattle.theory.specs.Alive.{valuations_few}
+use Rattle.theory.proofs.Alive.{valuations_few}
 use Rattle.model.specs.Sets.{PairSet}
 use Rattle.model.specs.Moves.{from, to}
 use Rattle.model.specs.LiveSet.{before}

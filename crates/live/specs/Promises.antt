@@ -8,7 +8,7 @@ use Rattle.meaning.specs.Says.{Says}
 use Rattle.meaning.specs.Pair.{Live}
 use Rattle.pairs.specs.Sets.{inside}
 use Rattle.model.specs.LiveSet.{live_set}
-use Rattle.model.specs.Lives.{live_says}
+use Rattle.model.proofs.Lives.{live_says}
 use Rattle.answers.specs.declared.Refusal.{Refusal}
 use Rattle.answers.specs.declared.Outcome.{Outcome}
 use Rattle.answers.specs.declared.Outcome.TheVariants.{Accepted, Refused}

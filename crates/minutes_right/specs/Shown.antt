@@ -11,7 +11,7 @@ use Rattle.meaning.specs.Verdict.{Right}
 use Rattle.pairs.specs.Sets.{empty_of}
 use Rattle.model.specs.LiveSet.{live_set}
 use Rattle.model.specs.Monitor as model
-use Rattle.model.specs.Log.{log_right}
+use Rattle.model.proofs.Log.{log_right}
 use Rattle.answers.specs.Paper.{number_of}
 use Rattle.answers.specs.Promises.{verdict_number}
 use Rattle.plant.specs.declared.Plant.{Plant}

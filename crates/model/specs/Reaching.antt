@@ -18,7 +18,7 @@ use Rattle.meaning.specs.Formula.{Formula, parts}
 use Rattle.meaning.specs.Run.{Plant}
 use Rattle.meaning.specs.Limits.{AcceptedTable, Small}
 use Rattle.theory.specs.Node.{state_of, values_of, edge}
-use Rattle.theory.specs.Alive.{valuations_few}
+use Rattle.theory.proofs.Alive.{valuations_few}
 use Rattle.model.specs.Settle.{settle_keeps, settle_rests}
 use Rattle.model.specs.Sets.{PairSet, nodes_of, set_grown, differ}
 use Rattle.pairs.specs.Sets.{inside_words}

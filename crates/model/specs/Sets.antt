@@ -9,7 +9,8 @@ use Rattle.graphs.specs.Count.{grown}
 use Rattle.words.specs.Below.{count_below}
 use Rattle.meaning.specs.Formula.{Formula, parts}
 use Rattle.meaning.specs.Run.{Plant}
-use Rattle.theory.specs.Node.{node, node_first, node_second, state_of, values_of, valid, valid_says, valid_below}
+use Rattle.theory.specs.Node.{node, node_first, node_second, state_of, values_of, valid}
+use Rattle.theory.proofs.Node.{valid_says, valid_below}
 use Rattle.words.specs.Truth.{so_ext}
 
 -- the words hold pairs of the table's states and the rule's values only: what check 9 leaves of a state or a live set

@@ -16,7 +16,7 @@ use Rattle.meaning.specs.Event as meaning
 use Rattle.meaning.specs.Verdict.{verdict_of}
 use Rattle.meaning.specs.Step as step
 use Rattle.meaning.specs.Step.{Opens, Source, Stays}
-use Rattle.meaning.specs.Sense.{split_anew}
+use Rattle.meaning.proofs.Sense.{split_anew}
 use Rattle.meaning.specs.Limits.{AcceptedTable, Small}
 use Rattle.words.specs.Below.{count_below}
 use Rattle.words.specs.Laws.{bit_or_lem}
@@ -24,10 +24,10 @@ use Rattle.words.specs.Folds.{count_beyond, any_says}
 use Rattle.words.specs.Truth.{not_so, says_itself, says_or, says_same}
 use Rattle.pairs.specs.declared.Pairs.{Pairs}
 use Rattle.pairs.specs.Sets.{inside, empty_of, occurs_in, left_of, occupied, occupant}
-use Rattle.theory.specs.Alive.{valuations_few}
+use Rattle.theory.proofs.Alive.{valuations_few}
 use Rattle.model.specs.Monitor as model
 use Rattle.model.specs.Sets.{PairSet}
-use Rattle.model.specs.Rule.{opening_rule, opening_sets, step_rule, step_sets, first_restart}
+use Rattle.model.proofs.Rule.{opening_rule, opening_sets, step_rule, step_sets, first_restart}
 use Rattle.answers.specs.declared.Lamp.{Lamp}
 use Rattle.answers.specs.declared.Answer.{Answer}
 use Rattle.answers.specs.declared.Answer.TheVariants.{Shown, Refused}

@@ -19,15 +19,15 @@ use Rattle.words.specs.Over.{over}
 use Rattle.theory.specs.Join.{walk_then}
 use Rattle.theory.specs.Step.{pair_live}
 use Rattle.theory.specs.Values.{values_at, pair_of}
-use Rattle.theory.specs.Alive.{valuations_few}
+use Rattle.theory.proofs.Alive.{valuations_few}
 use Rattle.pairs.specs.Sets.{occupied}
 use Rattle.model.specs.LiveSet.{meet_of, live_set}
-use Rattle.model.specs.Lives.{live_says}
+use Rattle.model.proofs.Lives.{live_says}
 use Rattle.model.specs.Reaching.{meet_says}
 use Rattle.model.specs.Sets.{PairSet}
 use Rattle.model.specs.Monitor as model
-use Rattle.model.specs.Log as log
-use Rattle.model.specs.Witness.{has_live, witness_says}
+use Rattle.model.proofs.Log as log
+use Rattle.model.proofs.Witness.{has_live, witness_says}
 use Rattle.answers.specs.declared.Kind.TheVariants.{Room, NoPair}
 use Rattle.answers.specs.declared.Outcome.{Outcome}
 use Rattle.answers.specs.declared.Outcome.TheVariants.{Accepted, Refused}

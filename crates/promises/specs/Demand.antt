@@ -13,11 +13,11 @@ use Rattle.words.specs.Below.{count_below}
 use Rattle.pairs.specs.Sets.{inside, empty_of, occurs_in}
 use Rattle.theory.specs.Narrow.{Narrower}
 use Rattle.theory.specs.Join.{walk_then}
-use Rattle.model.specs.Lives.{live_says}
+use Rattle.model.proofs.Lives.{live_says}
 use Rattle.model.specs.Monitor as model
-use Rattle.model.specs.Shown.{occurs_says}
-use Rattle.model.specs.Log as log
-use Rattle.model.specs.Witness.{Witness}
+use Rattle.model.proofs.Shown.{occurs_says}
+use Rattle.model.proofs.Log as log
+use Rattle.model.proofs.Witness.{Witness}
 use Rattle.answers.specs.declared.Answer.{Answer}
 use Rattle.answers.specs.declared.Answer.TheVariants.{Shown, Refused}
 use Rattle.answers.specs.Paper.{verdict, paper, number_of, kind_number}

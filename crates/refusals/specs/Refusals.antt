@@ -20,13 +20,13 @@ use Rattle.words.specs.Folds.{any_says, any_none, all_of}
 use Rattle.text.specs.Cases.{below_or_beyond}
 use Rattle.pairs.specs.declared.Pairs.{Pairs}
 use Rattle.pairs.specs.Sets.{occupied, occupant}
-use Rattle.theory.specs.Alive.{valuations_few}
+use Rattle.theory.proofs.Alive.{valuations_few}
 use Rattle.model.specs.Monitor as model
 use Rattle.model.specs.Checks.{width, pairs_ok, pairs_says, legal_says}
 use Rattle.model.specs.LiveSet.{meet_of, live_set}
-use Rattle.model.specs.Lives.{live_says}
+use Rattle.model.proofs.Lives.{live_says}
 use Rattle.model.specs.Reaching.{meet_says}
-use Rattle.model.specs.Witness.{has_live}
+use Rattle.model.proofs.Witness.{has_live}
 use Rattle.answers.specs.declared.Kind.{Kind}
 use Rattle.answers.specs.declared.Kind.TheVariants.{Counts, Bits, Value, IllegalEvent, Room, NoPair, Number}
 use Rattle.answers.specs.declared.Outcome.{Outcome}

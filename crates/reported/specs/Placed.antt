@@ -12,7 +12,7 @@ use Rattle.std.proofs.Math.Seq.{take-length}
 use Rattle.meaning.specs.Run.{Plant, Lasso, state_at, label_of}
 use Rattle.meaning.specs.Event as meaning
 use Rattle.meaning.specs.Event.{Seen, Agrees, AgreesWith, History, grow, since}
-use Rattle.meaning.specs.Sense.{since_grow, since_more}
+use Rattle.meaning.proofs.Sense.{since_grow, since_more}
 use Rattle.words.specs.Laws.{bit_zero}
 use Rattle.words.specs.Tests.{below_cases}
 use Rattle.theory.specs.Opening.{agrees_more}

@@ -22,12 +22,12 @@ use Rattle.words.specs.Within.{and_same}
 use Rattle.words.specs.Lists.{words_at, words_ext, length_words}
 use Rattle.labels.specs.Labels.{agreeing_of}
 use Rattle.moves.specs.Image.{image_of}
-use Rattle.theory.specs.Alive.{valuations_few}
+use Rattle.theory.proofs.Alive.{valuations_few}
 use Rattle.model.specs.Sets.{PairSet}
 use Rattle.model.specs.Moves.{from, to}
 use Rattle.model.specs.Monitor as model
 use Rattle.model.specs.Values.{holding_bit}
-use Rattle.model.specs.Rule.{both_set, step_sets}
+use Rattle.model.proofs.Rule.{both_set, step_sets}
 use Rattle.pairs.specs.Sets.{inside, join_of, inside_words}
 use Rattle.model.specs.Code.{moved_image}
 use Rattle.leads.specs.Halves.{from_in, to_in}

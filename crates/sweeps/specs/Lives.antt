@@ -24,7 +24,7 @@ use Rattle.model.specs.Sets.{PairSet}
 use Rattle.model.specs.Tables.{Rows}
 use Rattle.model.specs.LiveSet.{meet_of, before, reaching, fair_set, settled_set, goal_sets, narrow, all_pairs, live_set, enough}
 use Rattle.model.specs.Reaching.{meet_set, reaching_set}
-use Rattle.model.specs.Lives.{Keeping, keeping_start, keeping_more}
+use Rattle.model.proofs.Lives.{Keeping, keeping_start, keeping_more}
 use Rattle.model.specs.Settle.{settle_same}
 use Rattle.sweeps.specs.Sweeps.{reaching_of}
 use Rattle.sweeps.specs.SweepsRight.{Moves, movers_right, reaching_right}

@@ -1,20 +1,17 @@
 -- The pairs of a table and a rule as the nodes of a finite graph: the pair of s and v is node v * 64 + s, bit s of word v.
 use mathlib.Core.Logic.Iff
-use Rattle.std.specs.Prelude.{ℕ, ◌+◌, ◌*◌, ◌/◌, ◌%◌, ◌^◌, ◌≤◌, ◌<◌, ◌≡◌, ◌↔◌, ◌&&◌, List, ◌++◌, map, ltb, length}
+use Rattle.std.specs.Prelude.{ℕ, ◌+◌, ◌*◌, ◌/◌, ◌%◌, ◌^◌, ◌<◌, ◌≡◌, ◌↔◌, ◌&&◌, List, ◌++◌, map, ltb, length}
 use Rattle.std.proofs.Common.{arith, length-append}
 use Rattle.std.proofs.Math.ListN.{length-map}
 use Rattle.meaning.specs.Bit.{bit}
-use Rattle.graphs.specs.Sets.{Nodes, Below}
+use Rattle.graphs.specs.Sets.{Nodes}
 use Rattle.graphs.specs.Walk.{Edges}
-use Rattle.meaning.specs.Says.{Says}
 use Rattle.meaning.specs.Formula.{Formula, parts}
 use Rattle.meaning.specs.Run.{Plant, label_of}
 use Rattle.meaning.specs.Step.{Part, table, leads}
 use Rattle.theory.specs.Move.{settled}
 use Rattle.theory.specs.Each.{Each, each_append, each_map}
 use Rattle.theory.specs.Parts.{length_table}
-use Rattle.words.specs.Truth.{says_and}
-use Rattle.words.specs.Tests.{lt_says}
 
 -- the pair of s and v as a node, and back
 abbrev pub node : ℕ → ℕ → ℕ
@@ -45,11 +42,6 @@ module _ (T : Plant) (f : Formula) where
   unfoldable pub valid : Nodes
   valid x = ltb (state_of x) T.states && ltb (values_of x) (2 ^ parts f)
 
-  -- which it says
-  pub valid_says : (x : ℕ) → Says (valid x) ((state_of x < T.states) × (values_of x < 2 ^ parts f))
-  unfolding valid
-  valid_says x = says_and (lt_says (state_of x) T.states) (lt_says (values_of x) (2 ^ parts f))
-
   -- a pair leads to a pair
   abbrev pub edge : Edges
   edge x y = leads T f (state_of x) (values_of x) (state_of y) (values_of y)
@@ -68,9 +60,3 @@ module _ (T : Plant) (f : Formula) where
   pub length_goals : length goals ≡ length T.fair + parts f
   unfolding goals
   length_goals = rw (length-append, length-map T.fair, length-map (table f 0), length_table f 0)
-
-  -- at most 64 * 64 pairs
-  pub valid_below : 2 ^ parts f ≤ 64 → Below 4096 valid
-  valid_below few x i =
-      let v : values_of x < 2 ^ parts f = ((valid_says x).0 i).1 in
-      omega arith

@@ -10,7 +10,8 @@ use Rattle.graphs.specs.Sets.{Nodes, Below, only}
 use Rattle.graphs.specs.Walk.{Edges, first_in, last_in, Reach, over, stay}
 use Rattle.graphs.specs.Close.{to_iff}
 use Rattle.graphs.specs.Rank.{Nearest}
-use Rattle.graphs.specs.Sweep.{goes, goes_iff}
+use Rattle.graphs.specs.Sweep.{goes}
+use Rattle.graphs.proofs.Sweep.{goes_iff}
 use Rattle.graphs.specs.Search.{fewer}
 use Rattle.theory.specs.Node.{state_of, values_of}
 use Rattle.model.specs.Sets.{nodes_of}

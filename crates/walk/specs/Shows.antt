@@ -17,24 +17,25 @@ use Rattle.pairs.specs.Sets.{occupant, inside_words}
 use Rattle.moves.specs.Fit.{entry}
 use Rattle.graphs.specs.Sets.{Nodes, ◌⊆◌}
 use Rattle.graphs.specs.Walk.{Edges, first_in, last_in, Walk, walk_in, walk_along}
-use Rattle.theory.specs.Node.{node, state_of, values_of, in_set, settled_at, valid, valid_says, edge, goals, each_goal}
+use Rattle.theory.specs.Node.{node, state_of, values_of, in_set, settled_at, valid, edge, goals, each_goal}
+use Rattle.theory.proofs.Node.{valid_says}
 use Rattle.graphs.specs.Core.{LiveNode, Keeps, live_stays}
 use Rattle.graphs.specs.Fair.{Fair}
-use Rattle.graphs.specs.Lasso.{Ring}
+use Rattle.graphs.proofs.Lasso.{Ring}
 use Rattle.std.proofs.lemmas.Bool.{not-true}
 use Rattle.meaning.specs.Step.{next_part, table}
 use Rattle.theory.specs.Move.{settled}
 use Rattle.theory.specs.Parts.{part_of, length_table}
 use Rattle.theory.specs.Each.{each_member, each_of, each_at, each_places}
-use Rattle.theory.specs.Sound.{ring_states}
-use Rattle.theory.specs.Alive.{live_iff, valuations_few}
+use Rattle.theory.proofs.Sound.{ring_states}
+use Rattle.theory.proofs.Alive.{live_iff, valuations_few}
 use Rattle.model.specs.LiveSet.{meet_of, live_set}
 use Rattle.model.specs.Sets.{nodes_of, nodes_valid, at_node}
 use Rattle.model.specs.Reaching.{meet_says}
 use Rattle.model.specs.Moves.{from, to, leads_says}
 use Rattle.model.specs.Tables.{Rows}
-use Rattle.model.specs.Lives.{live_set_lem, live_says}
-use Rattle.model.specs.Witness.{Witness, has_live, ring_witness}
+use Rattle.model.proofs.Lives.{live_set_lem, live_says}
+use Rattle.model.proofs.Witness.{Witness, has_live, ring_witness}
 use Rattle.leads.specs.Halves.{from_in, to_in}
 use Rattle.sweeps.specs.Rounds.{every_of, settled_in, goal_of}
 use Rattle.nearest.specs.Graph.{moves_of, move_of_lem, of_move}

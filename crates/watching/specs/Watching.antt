@@ -14,10 +14,10 @@ use Rattle.words.specs.Truth.{and_says}
 use Rattle.words.specs.Tests.{le_says}
 use Rattle.pairs.specs.declared.Pairs.{Pairs}
 use Rattle.model.specs.LiveSet.{live_set}
-use Rattle.model.specs.Lives.{live_set_lem}
+use Rattle.model.proofs.Lives.{live_set_lem}
 use Rattle.model.specs.Sets.{PairSet}
 use Rattle.model.specs.Checks.{pairs_ok, pairs_says, legal_says}
-use Rattle.model.specs.Rule.{opening_sets, step_sets}
+use Rattle.model.proofs.Rule.{opening_sets, step_sets}
 use Rattle.model.specs.Monitor as model
 use Rattle.answers.specs.declared.Kind.TheVariants.{IllegalEvent, Number as NumberKind}
 use Rattle.answers.specs.declared.Outcome.{Outcome}

@@ -1,5 +1,5 @@
 -- `words::count`: the machine's count of ones counts the members.
-use Rattle.words.specs.Unions.{ones_count}
+use Rattle.words.proofs.Unions.{ones_count}
 use Rattle.words.proofs.count.Goals as goal
 
 pub returns : goal.returns

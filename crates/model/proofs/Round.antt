@@ -16,8 +16,9 @@ use Rattle.meaning.specs.Run.{Plant, label_of}
 use Rattle.meaning.specs.Step.{Part, table}
 use Rattle.theory.specs.Move.{settled}
 use Rattle.meaning.specs.Limits.{AcceptedTable, Small}
-use Rattle.theory.specs.Node.{state_of, values_of, valid, valid_says, edge, in_set, settled_at, goals}
-use Rattle.theory.specs.Alive.{valuations_few}
+use Rattle.theory.specs.Node.{state_of, values_of, valid, edge, in_set, settled_at, goals}
+use Rattle.theory.proofs.Node.{valid_says}
+use Rattle.theory.proofs.Alive.{valuations_few}
 use Rattle.model.specs.Sets.{PairSet, nodes_of, nodes_valid}
 use Rattle.pairs.specs.Sets.{inside_words}
 use Rattle.model.specs.LiveSet.{meet_of, before, reaching, fair_set, settled_set, goal_sets, narrow}

@@ -18,7 +18,7 @@ use Rattle.meaning.specs.Run.{Plant, label_of}
 use Rattle.meaning.specs.Event.{Seen, Agrees, Event}
 use Rattle.meaning.specs.Step.{value, Pairs, HasValue, Opens, Led, Source, Stays}
 use Rattle.meaning.specs.Limits.{AcceptedTable, Small}
-use Rattle.theory.specs.Alive.{valuations_few}
+use Rattle.theory.proofs.Alive.{valuations_few}
 use Rattle.model.specs.Sets.{PairSet}
 use Rattle.pairs.specs.Sets.{inside_words}
 use Rattle.model.specs.Leads.{reached_says}

@@ -6,7 +6,7 @@ use Rattle.std.proofs.lemmas.List.{length-map}
 use Rattle.pairs.specs.Sets.{inside, empty_of, occupied, occupant}
 use Rattle.graphs.specs.Sets.{Nodes, ◌⊆◌}
 use Rattle.graphs.specs.Walk.{Edges, walk_widen}
-use Rattle.graphs.specs.Lasso.{Ring}
+use Rattle.graphs.proofs.Lasso.{Ring}
 use Rattle.std.proofs.lemmas.Bool.{not-true}
 use Rattle.meaning.specs.Says.{Says}
 use Rattle.meaning.specs.Formula.{Formula}
@@ -17,15 +17,15 @@ use Rattle.meaning.specs.Verdict.{Chosen}
 use Rattle.meaning.specs.Limits.{AcceptedTable, Small, most_stem, most_loop}
 use Rattle.theory.specs.Join.{walk_then}
 use Rattle.theory.specs.Node.{node, edge, goals}
-use Rattle.theory.specs.Sound.{ring_states, ring_fair, ring_pair}
-use Rattle.theory.specs.Alive.{valuations_few, live_short}
+use Rattle.theory.proofs.Sound.{ring_states, ring_fair, ring_pair}
+use Rattle.theory.proofs.Alive.{valuations_few, live_short}
 use Rattle.theory.specs.Witness.{witness_run}
 use Rattle.model.specs.LiveSet.{meet_of, live_set}
 use Rattle.model.specs.Reaching.{meet_says}
 use Rattle.model.specs.Sets.{nodes_of, nodes_valid}
-use Rattle.model.specs.Lives.{live_set_lem, live_says}
+use Rattle.model.proofs.Lives.{live_set_lem, live_says}
 use Rattle.model.specs.Monitor.{Monitor, side}
-use Rattle.model.specs.Means.{Means, Begun}
+use Rattle.model.proofs.Means.{Means, Begun}
 
 -- what the call writes: a lasso within the bounds, by which some pair of the set is live
 pub record Witness (T : Plant) (f : Formula) (set : List ℕ) (L : Lasso) : Type 0 where

@@ -12,14 +12,14 @@ use Rattle.meaning.specs.Run.{Plant, Lasso}
 use Rattle.meaning.specs.Event.{Seen, Event, History, none, more, again, now, grow, since}
 use Rattle.meaning.specs.Verdict.{Agreeing, Chosen, At, Possible, CanBe, Right}
 use Rattle.meaning.specs.Limits.{AcceptedTable, Small}
-use Rattle.meaning.specs.Sense.{since_grow, since_more}
+use Rattle.meaning.proofs.Sense.{since_grow, since_more}
 use Rattle.theory.specs.Join.{walk_then}
 use Rattle.theory.specs.Narrow.{Narrower, verdict_narrows, Finer, FinerHistory, Smaller, finer_fewer, more_fewer, grow_agrees, smaller_fewer}
 use Rattle.model.specs.LiveSet.{live_set}
 use Rattle.model.specs.Monitor.{Monitor, side, run_of, verdict, left}
-use Rattle.model.specs.Means.{Means, means_run}
-use Rattle.model.specs.Shown.{occupied_says, verdict_means, left_means}
-use Rattle.model.specs.Witness.{Witness, witness_joined}
+use Rattle.model.proofs.Means.{Means, means_run}
+use Rattle.model.proofs.Shown.{occupied_says, verdict_means, left_means}
+use Rattle.model.proofs.Witness.{Witness, witness_joined}
 
 -- a second log of the same restarts, each event of which sees no less than the first log's, and nothing otherwise
 abbrev pub FinerLog : List Event → List Event → Type 0

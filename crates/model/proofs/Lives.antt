@@ -9,20 +9,22 @@ use Rattle.pairs.specs.Sets.{inside, same_of, same_equal}
 use Rattle.words.specs.Below.{count_below}
 use Rattle.words.specs.Folds.{count_le}
 use Rattle.graphs.specs.Core.{LiveNode, Keeps, keeps_start}
-use Rattle.graphs.specs.Fair.{Lives, lives_iff}
+use Rattle.graphs.specs.Fair.{Lives}
+use Rattle.graphs.proofs.Fair.{lives_iff}
 use Rattle.graphs.specs.Trim.{trimmed_done}
 use Rattle.meaning.specs.Says.{Says}
 use Rattle.meaning.specs.Formula.{Formula, parts}
 use Rattle.meaning.specs.Run.{Plant}
 use Rattle.meaning.specs.Pair.{Live}
 use Rattle.meaning.specs.Limits.{AcceptedTable, Small}
-use Rattle.theory.specs.Node.{node, state_of, values_of, valid, valid_says, valid_below, edge, goals}
-use Rattle.theory.specs.Alive.{valuations_few, live_iff}
+use Rattle.theory.specs.Node.{node, state_of, values_of, valid, edge, goals}
+use Rattle.theory.proofs.Node.{valid_says, valid_below}
+use Rattle.theory.proofs.Alive.{valuations_few, live_iff}
 use Rattle.model.specs.Settle.{settle_keeps, settle_rests}
 use Rattle.model.specs.Sets.{PairSet, nodes_of, at_node, nodes_valid, set_grown, differ}
 use Rattle.pairs.specs.Sets.{inside_words}
 use Rattle.model.specs.LiveSet.{enough, narrow, all_pairs, live_set}
-use Rattle.model.specs.Round.{narrowed}
+use Rattle.model.proofs.Round.{narrowed}
 use Rattle.words.specs.Truth.{says_and}
 use Rattle.words.specs.Tests.{lt_says}
 

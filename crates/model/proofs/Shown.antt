@@ -19,9 +19,9 @@ use Rattle.meaning.specs.Verdict.{Agreeing, At, Possible, CanBe, Right}
 use Rattle.meaning.specs.Limits.{AcceptedTable, Small}
 use Rattle.theory.specs.Values.{values_at, pair_of}
 use Rattle.theory.specs.Verdict.{judged, verdict_right}
-use Rattle.theory.specs.Alive.{valuations_few}
+use Rattle.theory.proofs.Alive.{valuations_few}
 use Rattle.model.specs.Monitor.{Monitor, side, verdict, left}
-use Rattle.model.specs.Means.{Means}
+use Rattle.model.proofs.Means.{Means}
 use Rattle.words.specs.Truth.{not_so, says_same, says_or, kept_or}
 
 module _ (T : Plant) (f : Formula) (A : AcceptedTable T) (small : Small f) (m : Monitor) (h : History) (means : Means T f m h) where

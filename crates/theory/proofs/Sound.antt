@@ -4,7 +4,7 @@ use Rattle.std.proofs.Common.{mod-lt, sym, ap, ◌∙◌, ⊎_elim}
 use Rattle.std.proofs.Math.Bool.{So}
 use Rattle.std.proofs.lemmas.List.{length-map}
 use Rattle.meaning.specs.Bit.{bit}
-use Rattle.graphs.specs.Lasso.{Ring}
+use Rattle.graphs.proofs.Lasso.{Ring}
 use Rattle.meaning.specs.Formula.{Formula}
 use Rattle.meaning.specs.Run.{Plant, Lasso, FairLasso, state_at, label_of, next_of, labels_along}
 use Rattle.meaning.specs.Pair.{PairAt, Live}
@@ -12,8 +12,9 @@ use Rattle.meaning.specs.Step.{fits, table}
 use Rattle.theory.specs.Each.{Each, each_of, each_at, each_imp}
 use Rattle.theory.specs.Until.{Again}
 use Rattle.theory.specs.Join.{below_or_beyond, in_stem, in_loop}
-use Rattle.theory.specs.Lasting.{lasting}
-use Rattle.theory.specs.Node.{node, node_first, node_second, state_of, values_of, valid, valid_says, edge, settled_at, goals, each_goal}
+use Rattle.theory.proofs.Lasting.{lasting}
+use Rattle.theory.specs.Node.{node, node_first, node_second, state_of, values_of, valid, edge, settled_at, goals, each_goal}
+use Rattle.theory.proofs.Node.{valid_says}
 use Rattle.theory.specs.Ring.{ring_first, ring_moves, ring_within, ring_meets, ring_again}
 use Rattle.words.specs.Lists.{at_map}
 use Rattle.words.specs.Truth.{and_says}

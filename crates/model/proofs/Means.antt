@@ -16,10 +16,10 @@ use Rattle.theory.specs.Opening.{at_opening, at_first}
 use Rattle.theory.specs.Step.{Came, at_step, at_again}
 use Rattle.model.specs.Sets.{PairSet}
 use Rattle.model.specs.LiveSet.{live_set}
-use Rattle.model.specs.Lives.{live_set_lem, live_says}
+use Rattle.model.proofs.Lives.{live_set_lem, live_says}
 use Rattle.model.specs.Monitor.{Monitor, side, opening, step_of, run_of}
 use Rattle.meaning.specs.Step.{Opens, Led, Source}
-use Rattle.model.specs.Rule.{In, opening_rule, step_rule, step_sets, opening_sets}
+use Rattle.model.proofs.Rule.{In, opening_rule, step_rule, step_sets, opening_sets}
 
 -- whether an event came; if so, the mark is the position of one of them
 abbrev pub Begun : Bool → History → Type 0
