@@ -4,10 +4,9 @@
 ghost use Rattle.std.specs.Prelude.{◌≤◌};
 
 use crate::show;
-use crate::show::{digits, end, tell};
+use crate::show::{digits, end, put, tell};
 use answers::Outcome;
 use cases::find;
-use program::said::put;
 
 // The outcome of a text, a log's or a table's.
 fn outcome_of(text: &[u8], is_log: bool) -> Outcome {

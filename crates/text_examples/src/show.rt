@@ -2,7 +2,11 @@
 use answers::Outcome;
 use event_log::{Event, Num};
 use plant::Plant;
-use program::said::{put, put_decimal, put_hex};
+use program::said::{put_decimal, put_hex};
+
+pub fn put<P: Print>(to: &P, bytes: &[u8]) {
+    program::said::put(to, bytes);
+}
 
 pub fn digits<P: Print>(to: &P, n: usize) {
     put_decimal(to, n as u64);
