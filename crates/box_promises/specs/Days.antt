@@ -1,5 +1,5 @@
 -- A DAY OF A C PROGRAM. From the texts on, whatever events are noted, those that are refused among them: the words of the day hold the sheet worked out afresh from the events that were
--- accepted, and the box the monitor beside it: `notes-right`.
+-- accepted, and the box the monitor beside it: `notes_right`.
 use Rattle.std.specs.Prelude.{ℕ, ◌+◌, ◌-◌, ◌≡◌, Bool, cond, eqb, ltb, length, get_or, set}
 use Rattle.std.proofs.Math.Path.{refl, ap, ap₂, subst}
 use Rattle.std.proofs.Common.{sym, ◌∙◌, length-set}
@@ -149,7 +149,7 @@ module _ (table rule : List ℕ) (ok : (opened_of table rule).outcome ≡ Accept
   all_on [] x n h = h
   all_on (e ∷ es) x n h = all_on es (note_in x e) (calls n.monitor n.sheet e) (one_on x n e h)
 
-  -- THE WORDS AFTER ANY EVENTS, from a box that was opened, whatever was in it, and a day that holds the empty sheet, as zeros do (`zero-empty`)
+  -- THE WORDS AFTER ANY EVENTS, from a box that was opened, whatever was in it, and a day that holds the empty sheet, as zeros do (`zero_empty`)
   pub notes_right : (w d : List ℕ) → sheet_in d ≡ empty_sheet → (es : List Event)
       → (held_in (noted_all (record { box = box_opened w o; day = d }) es).box
       ≡ changed (held_of o) (noted_through o.table.plant (fair_in o.table) (label_in o.table) (next_in o.table) o.rule o.live es).monitor)

@@ -1,5 +1,5 @@
--- WHAT IS PROMISED OF THE BOX. From the texts on, whatever steps come: `opens-right`, `opened-right`, `steps-right`, `answers-right`. A refusal leaves it: `refused-stays`, `unopened-stays`.
--- Nothing is cut off silently: `beyond-look`, `beyond-step`, `beyond-run`.
+-- WHAT IS PROMISED OF THE BOX. From the texts on, whatever steps come: `opens_right`, `opened_right`, `steps_right`, `answers_right`. A refusal leaves it: `refused_stays`, `unopened_stays`.
+-- Nothing is cut off silently: `beyond_look`, `beyond_step`, `beyond_run`.
 use Prim.Native.Nat.{ℕ, ◌+◌}
 use Rattle.std.specs.Prelude.{◌≡◌, Bool, true, false, length}
 use Rattle.std.proofs.Math.Path.{refl, ap}

@@ -1,6 +1,6 @@
 -- A BOX THAT TAKES A LOG IN SCRAPS: what `jug_open`, `jug_take` and `jug_end` (jugastilum/src) write and answer, one after the other. Promises proves what is claimed; this page has no
 -- proof.
--- `boxOpened` (box_calls/specs/Calls), `tookIn`, `boxTaken` and `end_in` (box_radio/specs/Radios) are by the contracts of these functions the box that is opened, what a scrap gives, the
+-- `box_opened` (box_calls/specs/Calls), `took_in`, `box_taken` and `end_in` (box_radio/specs/Radios) are by the contracts of these functions the box that is opened, what a scrap gives, the
 -- box behind it, and what the end says. Each reads the words anew, so a box that is stored between two of them and loaded again goes on as if nothing had happened.
 use Rattle.std.specs.Prelude.{ℕ, ◌≤◌, ◌<◌, ◌≡◌, List, [], ◌∷◌, ◌++◌, length, get_or}
 use Rattle.meaning.specs.Formula.{Formula}

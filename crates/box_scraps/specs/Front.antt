@@ -1,4 +1,4 @@
--- WHAT A BOX HOLDS IS IN ITS FIRST 363 WORDS (`front-held`), and the ten words behind them are zeros when it is opened: the radio that has heard nothing (`opened-silent`).
+-- WHAT A BOX HOLDS IS IN ITS FIRST 363 WORDS (`front_held`), and the ten words behind them are zeros when it is opened: the radio that has heard nothing (`opened_silent`).
 use Rattle.std.specs.Prelude.{ℕ, ◌+◌, ◌/◌, ◌%◌, ◌*◌, ◌^◌, ◌≤◌, ◌<◌, ◌≡◌, true, List, replicate}
 use Rattle.std.proofs.Common.{arith, div-le_self, ◌∙◌}
 use Rattle.std.proofs.Math.Decide.{dec_lt}

@@ -1,7 +1,7 @@
 -- THE DAY'S END: what `close_log` (closing/src) answers, from the bytes of three texts and an edition to a closing verdict. Two claims stand at the end. FromDay proves them, as
--- `day-end-right` and `as-watched`; this page has no proof, so what it takes from other files is what must be believed. It reads as FrontDoor and WholeLog (front_door/specs) do, and
+-- `day_end_right` and `as_watched`; this page has no proof, so what it takes from other files is what must be believed. It reads as FrontDoor and WholeLog (front_door/specs) do, and
 -- beside them: `HoldsWithin` and `Uses` (within/specs) are finite-trace logic and the propositions of a rule.
--- `closedOf` (closing/specs/Closing) is by the contract of `close_log` its answer.
+-- `closed_of` (closing/specs/Closing) is by the contract of `close_log` its answer.
 use Rattle.std.specs.Prelude.{ℕ, ◌≤◌, ◌<◌, ◌≡◌, ◌↔◌, ◌⊎◌, List, length, drop}
 use Rattle.std.proofs.Math.Bool.{So}
 use Rattle.meaning.specs.Bit.{bit}

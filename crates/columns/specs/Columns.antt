@@ -1,4 +1,4 @@
--- THE COLUMNS OF A FIXED MACHINE (02, g): the legal events, by see first, within one see by val, and of each the one without restart first. What must be believed of columns is `columnsOf`.
+-- THE COLUMNS OF A FIXED MACHINE (02, g): the legal events, by see first, within one see by val, and of each the one without restart first. What must be believed of columns is `columns_of`.
 use Rattle.std.specs.Prelude.{ℕ, zero, suc, ◌/◌, ◌%◌, ◌^◌, ◌≤◌, ◌<◌, ◌≡◌, refl, Bool, true, false, cond, List, [], ◌∷◌, ◌++◌, eqb, length, get_or}
 use Rattle.std.proofs.Common.{ap, ◌∙◌, arith}
 use Rattle.words.specs.Below.{list_below}

@@ -1,5 +1,5 @@
 -- HOW LONG THE TEXT OF A DAY SHEET CAN BE. Whatever stands in a sheet it has 6,080 bytes at most, and 4,800 where the numbers are those of events (day_writer/specs/Promises). Here are two
--- sheets that are as long, `longest` and `longest-counted`, so no smaller bound holds; and that every sheet kept from the opening on is of the second kind, `kept-4800`.
+-- sheets that are as long, `longest` and `longest_counted`, so no smaller bound holds; and that every sheet kept from the opening on is of the second kind, `kept_4800`.
 use Rattle.std.specs.Prelude.{ℕ, zero, suc, ◌+◌, ◌*◌, ◌-◌, ◌^◌, ◌≤◌, ◌<◌, ◌≡◌, refl, Bool, true, false, cond, List, [], ◌∷◌, ◌++◌, map, length, get_or, replicate}
 use Rattle.std.proofs.Common.{zero-le, arith, suc-mul, sym, ap, ap₂, subst, ◌∙◌, length-append}
 use Rattle.std.proofs.lemmas.List.{get_or-replicate}

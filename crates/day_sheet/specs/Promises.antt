@@ -1,6 +1,6 @@
 -- WHAT IS PROMISED OF NOTING. From what `open` gives and the empty sheet on, whatever events come, the sheet is the one worked out afresh from those that were
--- accepted: `always-afresh`. A refusal changes neither monitor nor sheet: `refused-leaves`. An event that 10 and 16 accept is refused by 23 exactly where the sheet
--- worked out afresh with it would have more than 64 lines: `refused-exactly`.
+-- accepted: `always_afresh`. A refusal changes neither monitor nor sheet: `refused_leaves`. An event that 10 and 16 accept is refused by 23 exactly where the sheet
+-- worked out afresh with it would have more than 64 lines: `refused_exactly`.
 use Prim.Native.Nat.{ℕ, zero, suc, ◌+◌, ◌-◌, ◌^◌, ◌≤◌, ◌<◌, zero-le}
 use Rattle.std.proofs.Common.{arith, ◌∙◌, le-ltb, eq-eqb, eqb-true}
 use Rattle.std.proofs.Math.Decide.{dec_lt}

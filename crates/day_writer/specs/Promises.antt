@@ -1,4 +1,4 @@
--- What is promised of a sheet's text: how long it is at most. The contract of write_sheet is two equations: it answers `writeAnswer`, and leaves `writeBuffer` in the buffer (Writing).
+-- What is promised of a sheet's text: how long it is at most. The contract of write_sheet is two equations: it answers `write_answer`, and leaves `write_buffer` in the buffer (Writing).
 use Rattle.std.specs.Prelude.{ℕ, zero, suc, ◌+◌, ◌*◌, ◌/◌, ◌%◌, ◌^◌, ◌≤◌, ◌<◌, ◌≡◌, refl, Bool, true, false, cond, List, [], ◌∷◌, ◌++◌, ltb, length, get_or}
 use Rattle.std.proofs.Common.{zero-le, arith, eq-or-lt_of_le, ⊎_elim, length-append, ltb-true, ltb-false}
 use Rattle.io.specs.Digits.{hex_digit_ascii, last_digits}

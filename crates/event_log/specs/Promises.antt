@@ -1,4 +1,4 @@
--- What is promised of logs. Check 10: `legal-exactly` in Legal. Two forms of lines: Forms. Here: what reading a log of w digits means.
+-- What is promised of logs. Check 10: `legal_exactly` in Legal. Two forms of lines: Forms. Here: what reading a log of w digits means.
 use Rattle.std.specs.Prelude.{ℕ, ◌<◌, ◌≡◌, refl, ◌↔◌, Bool, true, false, cond, List, [], ◌∷◌, ◌++◌, length, get_or}
 use Rattle.std.proofs.Common.{sym, subst, ap, ◌∙◌, arith, eqb-true}
 use Rattle.std.proofs.lemmas.Bool.{false≢true, eqb-false}

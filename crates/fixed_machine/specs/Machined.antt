@@ -1,5 +1,5 @@
 -- WHAT `make_machine` ANSWERS, WRITES AND LEAVES (02, g): the checks in their order, and behind them the fixed machine of the monitor. What must be believed is
--- here: `stepAt`, `shownIn`, `Machined`; with columns/specs/Columns (columns), machines/specs/Machine and Made (machines) and Bytes (their bytes).
+-- here: `step_at`, `shown_in`, `Machined`; with columns/specs/Columns (columns), machines/specs/Machine and Made (machines) and Bytes (their bytes).
 use Rattle.std.specs.Prelude.{ℕ, ◌≤◌, ◌<◌, ◌≡◌, Bool, true, false, List, leb, length, get_or, replicate}
 use Rattle.std.proofs.Math.Path.{refl, ap}
 use Rattle.std.proofs.Common.{sym, subst, ◌∙◌}

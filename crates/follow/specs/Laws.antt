@@ -1,4 +1,4 @@
--- OF TWENTY BYTES AT MOST ONE ENDS AN EVENT'S LINE (`one-event`), and A SCRAP THAT IS NOT REFUSED MAKES THE LOG LONGER by as many bytes as it has (`gets-longer`).
+-- OF TWENTY BYTES AT MOST ONE ENDS AN EVENT'S LINE (`one_event`), and A SCRAP THAT IS NOT REFUSED MAKES THE LOG LONGER by as many bytes as it has (`gets_longer`).
 use Prim.Native.Nat.{ℕ, zero, suc, ◌+◌, ◌*◌, ◌≤◌, ◌<◌}
 use native.Mathlib.Omega.{arith}
 use Rattle.std.specs.Prelude.{◌≡◌, Bool, true, false, cond, ltb, leb}

@@ -1,8 +1,8 @@
--- THE FRONT DOOR: what the program writes, from the bytes of plant.txt, rule.txt and log.txt to the lamps. Two claims stand at the end. FromTexts proves them, as `front-door` and
--- `every-output`; this page has no proof, so what it takes from other files is what must be believed.
--- Read beside it: meaning/specs (rules, runs, events, verdicts); the forms of the texts, `tableText` (plant/specs/Written), `SaidBy` (syntax/specs/Grammar) and `logText` (log/specs/Promises);
--- `smallOf` (text/specs/Written), which makes the digits of a text small; and the lines, `startText`, `lampText` and `refusedText` (report/specs/Text).
--- `outputOf` is by its contract what `write_output` (transcript/src) puts into the buffer that the program writes out.
+-- THE FRONT DOOR: what the program writes, from the bytes of plant.txt, rule.txt and log.txt to the lamps. Two claims stand at the end. FromTexts proves them, as `front_door_lem` and
+-- `every_output`; this page has no proof, so what it takes from other files is what must be believed.
+-- Read beside it: meaning/specs (rules, runs, events, verdicts); the forms of the texts, `table_text` (plant/specs/Written), `SaidBy` (syntax/specs/Grammar) and `log_text` (event_log/specs/Promises);
+-- `small_of` (text/specs/Written), which makes the digits of a text small; and the lines, `start_text`, `lamp_text` and `refused_text` (report/specs/Text).
+-- `output_of` is by its contract what `write_output` (transcript/src) puts into the buffer that the program writes out.
 use Rattle.std.specs.Prelude.{ℕ, suc, ◌≤◌, ◌<◌, ◌≡◌, ◌⊎◌, List, [], ◌++◌, length, get_or, take}
 use Rattle.meaning.specs.Formula.{Formula, size, parts}
 use Rattle.meaning.specs.Run.{Plant}

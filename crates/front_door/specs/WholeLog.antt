@@ -1,6 +1,6 @@
 -- A WHOLE LOG: what `watch_log` (controller/src) answers and writes, from the bytes of three texts to a verdict for each event. Two claims stand at the end. FromLog proves them, as
--- `whole-log-right` and `every-answer`; this page has no proof, so what it takes from other files is what must be believed. It reads as FrontDoor does, and beside it.
--- `heardOf` (controller/specs/Whole) is by the contract of `watch_log` its answer and the bytes that it writes.
+-- `whole_log_right` and `every_answer`; this page has no proof, so what it takes from other files is what must be believed. It reads as FrontDoor does, and beside it.
+-- `heard_of` (controller/specs/Whole) is by the contract of `watch_log` its answer and the bytes that it writes.
 use Rattle.std.specs.Prelude.{ℕ, suc, ◌≤◌, ◌<◌, ◌≡◌, List, map, length, get_or, take}
 use Rattle.meaning.specs.Formula.{Formula}
 use Rattle.meaning.specs.Run.{Plant}

@@ -1,5 +1,5 @@
--- WHAT IS PROMISED OF `make_machine`. What it answers and leaves is determined: `one_answer`. 15 exactly if more than 256 monitor states are reached: `fifteen-exactly`; the words end 0: `words-end-zero`.
--- Each row is reached, and no two answer alike: `rows-reached`, `rows-differ`; no machine that answers alike has fewer rows: `none-smaller`. That machine and stepping agree is in Agrees.
+-- WHAT IS PROMISED OF `make_machine`. What it answers and leaves is determined: `one_answer`. 15 exactly if more than 256 monitor states are reached: `fifteen_exactly`; the words end 0: `words_end_zero`.
+-- Each row is reached, and no two answer alike: `rows_reached`, `rows_differ`; no machine that answers alike has fewer rows: `none_smaller`. That machine and stepping agree is in Agrees.
 use Rattle.std.specs.Prelude.{ℕ, ◌+◌, ◌*◌, ◌≤◌, ◌<◌, ◌≡◌, ◌↔◌, Bool, true, false, List, leb, length, replicate}
 use Rattle.std.proofs.Common.{sym, ap, subst, ◌∙◌, arith}
 use Rattle.meaning.specs.Formula.{Formula}

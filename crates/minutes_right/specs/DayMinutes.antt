@@ -1,7 +1,7 @@
--- THE MINUTES OF A DAY: what `note_texts` (minutes/src) answers, from the bytes of three texts to a day sheet. Two claims stand at the end. FromMinutes proves them, as `minutes-right`
--- and `every-minutes`; this page has no proof, so what it takes from other files is what must be believed. It reads as FrontDoor and WholeLog (front_door/specs) do, and beside them:
--- `numberedFrom` (day_sheet/specs/Afresh) gives every event its number, those that were not received among them, and `lines_of` (stretches/specs/Afresh) makes lines of what was shown.
--- `minutesOf` (minutes/specs/Minutes) is by the contract of `note_texts` its answer.
+-- THE MINUTES OF A DAY: what `note_texts` (minutes/src) answers, from the bytes of three texts to a day sheet. Two claims stand at the end. FromMinutes proves them, as `minutes_right_lem`
+-- and `every_minutes`; this page has no proof, so what it takes from other files is what must be believed. It reads as FrontDoor and WholeLog (front_door/specs) do, and beside them:
+-- `numbered_from` (day_sheet/specs/Afresh) gives every event its number, those that were not received among them, and `lines_of` (stretches/specs/Afresh) makes lines of what was shown.
+-- `minutes_of` (minutes/specs/Minutes) is by the contract of `note_texts` its answer.
 use Rattle.std.specs.Prelude.{ℕ, suc, ◌≤◌, ◌<◌, ◌≡◌, false, List, map, length, get_or, take}
 use Rattle.std.proofs.Math.Bool.{So}
 use Rattle.meaning.specs.Formula.{Formula}

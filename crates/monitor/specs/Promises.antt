@@ -1,4 +1,4 @@
--- What the calls on a monitor promise. Their contracts are equations: open answers `openCall`, look `lookCall`, step `stepCall` (specs/Calls). Here is said
+-- What the calls on a monitor promise. Their contracts are equations: open answers `open_call`, look `look_call`, step `step_call` (specs/Calls). Here is said
 -- when a call is accepted, and what a refusal leaves. What each number is given for, and what the lamp says of the runs, is said in the crate promises.
 use mathlib.Core.Logic.Iff
 use Rattle.std.specs.Prelude.{ℕ, ◌+◌, ◌^◌, ◌≤◌, ◌≡◌, ◌↔◌, Bool, not, length}

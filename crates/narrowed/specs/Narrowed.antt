@@ -1,5 +1,5 @@
 -- AN EVENT BY ONE THAT SEES NOTHING: behind the first event, what an event leads to is what the event that sees nothing and restarts nothing leads to, cut to the
--- states that agree, and at a restart united and split anew. `narrowed-is` says so.
+-- states that agree, and at a restart united and split anew. `narrowed_is` says so.
 use Prim.Native.Nat.{ℕ, ◌≤◌}
 use Rattle.std.proofs.Math.Path.{◌≡◌, refl, sym, ap}
 use Rattle.std.proofs.Common.{ap₂, ◌∙◌, inl, inr, ⊎_elim, arith}

@@ -1,4 +1,4 @@
--- What is promised of plant tables. The check of a table handed in: `accepted-exactly`, `counts-refused`, `bits-refused` in Check. Here: what reading a text means.
+-- What is promised of plant tables. The check of a table handed in: `accepted_exactly`, `counts_refused`, `bits_refused` in Check. Here: what reading a text means.
 use Rattle.std.specs.Prelude.{ℕ, ◌^◌, ◌≤◌, ◌<◌, ◌≡◌, refl, ◌↔◌, Bool, true, false, List, length, take, get_or}
 use Rattle.std.proofs.Common.{sym, subst, ap, ◌∙◌, ⊎_elim, lt_of_lt_of_le, arith, pow_mono}
 use Rattle.meaning.specs.Run as run

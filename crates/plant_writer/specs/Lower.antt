@@ -1,4 +1,4 @@
--- A text with each capital digit made small, byte by byte. Of a table's text this is what `smallOf` (text/specs/Written) says by slots.
+-- A text with each capital digit made small, byte by byte. Of a table's text this is what `small_of` (text/specs/Written) says by slots.
 use Rattle.std.specs.Prelude.{ℕ, zero, suc, ◌+◌, ◌-◌, ◌/◌, ◌%◌, ◌<◌, ◌≡◌, refl, Bool, true, false, ◌&&◌, cond, List, [], ◌∷◌, ◌++◌, map, eqb, ltb, length, get_or}
 use Rattle.std.proofs.Common.{ap, ap₂, ◌∙◌, arith, eqb-true, lt-ltb, le-ltb}
 use Rattle.std.proofs.Math.Bool.{So}

@@ -1,4 +1,4 @@
--- What is promised of writing a table. The contract of write_table is two equations: it answers `writeAnswer`, and leaves `writeBuffer` in the buffer (Writing).
+-- What is promised of writing a table. The contract of write_table is two equations: it answers `write_answer`, and leaves `write_buffer` in the buffer (Writing).
 use Rattle.std.specs.Prelude.{ℕ, ◌≤◌, ◌≡◌, refl, Bool, true, false, List, map, leb, length, take, drop}
 use Rattle.std.proofs.Common.{sym, ap, ◌∙◌, arith, leb-true, length-append, length-drop, take_at, drop_at}
 use Rattle.std.proofs.lemmas.Bool.{false≢true}

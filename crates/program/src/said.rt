@@ -1,5 +1,5 @@
-// What the programs write: a text, or a line. Of what the system takes no contract can speak: where it takes nothing more, the rest is not written, and
-// the program ends as ever.
+// What the programs write: a text, a line, a number, or that something is refused. Of what the system takes no contract can speak: where it takes nothing more, the rest
+// is not written, and the program ends as ever.
 ghost use Rattle.io.specs.Counts.{IsPrefixLen};
 
 use answers::Refusal;

@@ -1,5 +1,5 @@
--- WHAT THE CALLS PUT IN CAN BE PUT IN: the radio that has heard nothing is one (`silent-sendable`), and so is that behind every scrap of one (`take-sendable`). So with
--- `radio-back` a box that is kept between any two scraps gives the radio back as it was.
+-- WHAT THE CALLS PUT IN CAN BE PUT IN: the radio that has heard nothing is one (`silent_sendable`), and so is that behind every scrap of one (`take_sendable`). So with
+-- `radio_back` a box that is kept between any two scraps gives the radio back as it was.
 use Rattle.std.specs.Prelude.{ℕ, zero, suc, ◌+◌, ◌<◌, ◌≡◌, Bool, cond, ltb, length, take, get_or, replicate}
 use Rattle.std.proofs.Common.{arith, ap}
 use Rattle.std.proofs.Math.Decide.{dec_lt}

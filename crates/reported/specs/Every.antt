@@ -1,5 +1,5 @@
 -- EVERY ANSWER OF `judge_report` (neighbour/src), from the bytes of any three texts, any claim and any runs: by what it is refused, at which place and for which cause, in the order
--- of the checks; and where nothing is refused, which answer the report deserves. One claim stands at the end. FromReport proves it, as `every-report`; this page has no proof. It
+-- of the checks; and where nothing is refused, which answer the report deserves. One claim stands at the end. FromReport proves it, as `every_report`; this page has no proof. It
 -- reads as WholeLog (front_door/specs) does.
 use Rattle.std.specs.Prelude.{ℕ, ◌<◌, ◌≡◌, ◌↔◌, Bool, List, length}
 use Rattle.meaning.specs.Formula.{Formula}

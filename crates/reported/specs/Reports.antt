@@ -1,7 +1,7 @@
 -- A NEIGHBOUR'S REPORT: what `judge_report` (neighbour/src) answers, from the bytes of three texts, a claim and two runs. One claim stands at the end. FromReport proves it, as
--- `reports-right`; this page has no proof, so what it takes from other files is what must be believed. It reads as WholeLog (front_door/specs) does, and beside
+-- `reports_right`; this page has no proof, so what it takes from other files is what must be believed. It reads as WholeLog (front_door/specs) does, and beside
 -- it: CorrectReport (Correct) says what a right report is, by `meaning` alone.
--- `judgedOf` (neighbour/specs/Judged) is by the contract of `judge_report` its answer.
+-- `judged_of` (neighbour/specs/Judged) is by the contract of `judge_report` its answer.
 use Rattle.std.specs.Prelude.{ℕ, ◌<◌, ◌≡◌, ◌↔◌, List, length}
 use Rattle.meaning.specs.Formula.{Formula}
 use Rattle.meaning.specs.Run.{Plant}

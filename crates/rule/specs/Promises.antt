@@ -1,6 +1,6 @@
--- What the calls on rules promise. Their contracts are equations: read_rule answers `ruleRead`, is_valid `valid_of`, print_rule `printAnswer`, and leaves `printBuffer`.
+-- What the calls on rules promise. Their contracts are equations: read_rule answers `rule_read`, is_valid `valid_of`, print_rule `print_answer`, and leaves `print_buffer`.
 -- What these mean is said here by short definitions (01, Rule text): `syntax/specs/Grammar` says what a text of the grammar is (`SaidBy f s`: the rule f is said by the text s), `syntax/specs/Value` what a rule's
--- value is (`ruleOf f`), `rule_text/specs/Paper` what each refusal is given for (`Because`), and what it is for a text to be accepted (`Takes`).
+-- value is (`rule_of f`), `rule_text/specs/Paper` what each refusal is given for (`Because`), and what it is for a text to be accepted (`Takes`).
 use Rattle.std.specs.Prelude.{ℕ, ◌≤◌, ◌<◌, ◌≡◌, refl, ◌↔◌, List, Bool, true, false, T, length}
 use Rattle.std.proofs.Common.{sym, ap, subst, ◌∙◌, arith}
 use Rattle.answers.specs.declared.Kind.{Kind}

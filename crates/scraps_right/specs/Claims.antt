@@ -1,6 +1,6 @@
 -- A LOG IN SCRAPS, BESIDE THE WHOLE LOG: what `take` and `finish` (scraps/src) answer and write over all scraps of a log, however it is cut. Promises and
 -- Written prove what is claimed; this page has no proof, so what it takes from other files is what must be believed.
--- `takeCall`, `finishCall` (scraps/specs/Calls) and `heardOf` (controller/specs/Whole) are by the contracts of `take`, `finish` and `watch_log` what these give; `radioAfter`, `said` and `text`
+-- `take_call`, `finish_call` (scraps/specs/Calls) and `heard_of` (controller/specs/Whole) are by the contracts of `take`, `finish` and `watch_log` what these give; `radio_after`, `said` and `text`
 -- (cuttings/specs/Scraps) are the calls of `take` one after the other, the verdicts that they write, and the bytes joined.
 use Rattle.std.specs.Prelude.{ℕ, ◌/◌, ◌≤◌, ◌≡◌, cond, List, [], ◌∷◌, ◌++◌, ltb, leb, length, take, replicate}
 use Rattle.words.specs.Over.{over}

@@ -1,5 +1,5 @@
 -- FROM THE BYTES OF A TABLE, A RULE AND SCRAPS to what the runs of the plant dictate: however a log is cut, each verdict byte is right for the events before it. It reads as WholeLog
--- (front_door/specs) does; the claim is `scraps-right`, the rest is its proof.
+-- (front_door/specs) does; the claim is `scraps_right_lem`, the rest is its proof.
 use Rattle.std.specs.Prelude.{ℕ, suc, ◌≤◌, ◌<◌, ◌≡◌, refl, List, map, length, get_or, take, replicate}
 use Rattle.std.proofs.Common.{arith, sym, ap, ap₂, subst, ◌∙◌}
 use Rattle.std.proofs.lemmas.List.{length-map, length-replicate}

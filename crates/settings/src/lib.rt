@@ -174,8 +174,7 @@ pub fn value_of<'a>(local: &'a [u8], shared: &'a [u8], a: Asked) -> &'a [u8]
     }
 }
 
-// The value of a key: the very bytes in the sheet that has it. It makes a struct that holds a reference, so its proof is a walk by hand: it calls two covered functions and puts
-// their results together.
+// The value of a key: the very bytes in the sheet that has it.
 #[tactic(auto, using(std::proofs::lemmas::Grind::common_steps))]
 pub fn look_up<'a>(local: &'a [u8], shared: &'a [u8], key: Key) -> Setting<'a>
     ensures { (result.answer ≡ asked local.now shared.now key) × IsPart (spot_of result.answer) local.entry shared.entry result.bytes }

@@ -1,4 +1,4 @@
--- WHAT WAS STORED IS READ BACK: `stored_back` for a box that is made, `monitor-back` for one whose monitor is changed.
+-- WHAT WAS STORED IS READ BACK: `stored_back` for a box that is made, `monitor_back` for one whose monitor is changed.
 use Rattle.std.specs.Prelude.{ℕ, ◌+◌, ◌-◌, ◌%◌, ◌≤◌, ◌<◌, ◌≡◌, Bool, true, false, not, cond, List, eqb, length}
 use Rattle.std.proofs.Math.Path.{refl, ap}
 use Rattle.std.proofs.Common.{sym, ◌∙◌}

@@ -1,4 +1,4 @@
-// The program's whole output, for three texts, each there or not, in a lent buffer: what `outputOf` (specs/Said) says. A program reads its files,
+// The program's whole output, for three texts, each there or not, in a lent buffer: what `output_of` (specs/Said) says. A program reads its files,
 // calls this and writes the buffer.
 #![tactic(auto)]
 

@@ -1,4 +1,4 @@
--- `with_rule`: what was made stands in the lent bytes (`made-within`).
+-- `with_rule`: what was made stands in the lent bytes (`made_within`).
 use Rattle.std.proofs.Common.{ℕ, ◌≡◌, sym, ◌∙◌, rules, length, replicate}
 use lib.ListN.{length-replicate}
 use Rattle.machine.proofs.Fits.{made_within}

@@ -1,4 +1,4 @@
--- `check_run`: by the first test that fails; what it means is `checked-means`.
+-- `check_run`: by the first test that fails; what it means is `checked_means`.
 use Rattle.node_value.specs.Turns.{passed, failed}
 use Rattle.shown.specs.Checked.{moves_loop, found_start, found_moves, found_fairness, found_agreement, found_value, found_correct}
 use Rattle.shown.specs.Right.{checked_means}

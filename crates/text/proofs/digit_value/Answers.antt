@@ -1,4 +1,4 @@
--- `text::digit_value`. Each return is a case of `digitValue`.
+-- `text::digit_value`. Each return is a case of `digit_value`.
 use borrow.Author.Tests.{lt-ltb, le-ltb}
 use Rattle.text.specs.Slot.{digit_value}
 use Rattle.text.proofs.digit_value.Goals as goal

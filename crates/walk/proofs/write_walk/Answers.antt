@@ -1,4 +1,4 @@
--- `write_walk`: x leads to a pair at which it can stay (`walked-rest`), or the walk goes on to where all leads back.
+-- `write_walk`: x leads to a pair at which it can stay (`walked_rest`), or the walk goes on to where all leads back.
 use Rattle.std.proofs.Common.{sym, ◌∙◌, arith}
 use Rattle.nearest.specs.Graph.{nodes_below}
 use Rattle.walk.specs.Ways.{nearest_slope}

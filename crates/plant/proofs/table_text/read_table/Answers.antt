@@ -1,4 +1,4 @@
--- `plant::table_text::read_table`. Each return is a case of `readAs`.
+-- `plant::table_text::read_table`. Each return is a case of `read_as`.
 use mathlib.Core.Path.{ap, sym, ◌∙◌}
 use Rattle.plant.specs.Read.{refused_read, read_unfit, read_fits}
 use Rattle.plant.proofs.table_text.read_table.Goals as goal

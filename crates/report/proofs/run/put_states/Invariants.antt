@@ -1,4 +1,4 @@
--- `report::run::put_states` meets its contract: state by state (`put-more`).
+-- `report::run::put_states` meets its contract: state by state (`put_more`).
 -- Assumes nothing.
 use Rattle.std.proofs.Common.{◌+◌, ◌*◌, ◌-◌, ◌≤◌, length}
 use Rattle.report.specs.Text.{states_text}

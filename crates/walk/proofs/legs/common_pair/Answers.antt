@@ -1,4 +1,4 @@
--- `legs::common_pair`: by the law of what two sets have in common (`meet-nodes`).
+-- `legs::common_pair`: by the law of what two sets have in common (`meet_nodes`).
 use Rattle.nearest.specs.Graph.{nodes_below}
 use Rattle.walk.specs.Ways.{meet_nodes}
 use Rattle.walk.proofs.legs.common_pair.Goals as goal

@@ -1,4 +1,4 @@
--- `rests::rests`: a word at a time, and the law of what was gathered (`rests-of`).
+-- `rests::rests`: a word at a time, and the law of what was gathered (`rests_of`).
 use Rattle.std.proofs.Common.{◌≡◌, zero-le, arith}
 use Rattle.words.specs.Lists.{words_none, words_turn}
 use Rattle.walk.specs.Rests.{rests_of}

@@ -1,4 +1,4 @@
--- `rests::rests`: a word at a time, and the law of what was gathered (`rests-of`).
+-- `rests::rests`: a word at a time, and the law of what was gathered (`rests_of`).
 use Rattle.std.proofs.Common.{◌≡◌, ◌≤◌, ◌-◌}
 use Rattle.words.specs.Below.{words_below}
 use Rattle.walk.specs.Rests.{rests_at}
