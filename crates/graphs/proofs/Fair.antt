@@ -1,4 +1,4 @@
--- The live nodes as the largest set in which every node has an edge and reaches every goal (Emerson and Lei).
+-- More of specs/Fair. The live nodes as the largest set in which every node has an edge and reaches every goal (Emerson and Lei).
 use Rattle.std.specs.Prelude.{ℕ, zero, suc, ◌<◌, ◌↔◌, ◌⊎◌, ◌&&◌, not, List}
 use Rattle.std.proofs.Common.{inl, inr, ⊎_elim, arith}
 use Rattle.std.proofs.Math.Bool.{So}

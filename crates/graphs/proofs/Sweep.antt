@@ -1,4 +1,4 @@
--- The closure computed: N - 1 sweeps are enough, since each but the last finds a node. So N - 1 steps are enough for any walk.
+-- More of specs/Sweep. The closure computed: N - 1 sweeps are enough, since each but the last finds a node. So N - 1 steps are enough for any walk.
 use mathlib.Core.Logic.Iff
 use Prim.Native.Nat.{ℕ, zero, suc, pred, ◌≤◌, ◌<◌}
 use Rattle.std.specs.Prelude.{refl, ◌↔◌, ◌⊎◌, length}

@@ -1,4 +1,4 @@
--- The pairs of a table and a rule as the nodes of a finite graph: the pair of s and v is node v * 64 + s, bit s of word v.
+-- More of specs/Node. The pairs of a table and a rule as the nodes of a finite graph: the pair of s and v is node v * 64 + s, bit s of word v.
 use mathlib.Core.Logic.Iff
 use Rattle.std.specs.Prelude.{ℕ, ◌^◌, ◌≤◌, ◌<◌}
 use Rattle.std.proofs.Common.{arith}

@@ -1,4 +1,4 @@
--- The laws of the sets that a loop over 0, 1, .. n - 1 gathers: a turn (`..-more`), the members (`bit-..`), and how many they are.
+-- The ones-count of a word counts its members.
 use Rattle.std.specs.Prelude.{ℕ, zero, suc, ◌+◌, ◌*◌, ◌/◌, ◌%◌, ◌^◌, ◌<◌, ◌≡◌}
 use Rattle.std.proofs.Common.{sym, ap, ap₂, ◌∙◌, pow-suc, arith}
 use Rattle.std.proofs.Math.Arith.{lt-one}
@@ -9,7 +9,6 @@ use Rattle.words.specs.Laws.{digit_of_lem, bit_low, bit_half}
 use Rattle.words.specs.Below.{count_below}
 use Rattle.words.specs.Folds.{count_same, count_first}
 
--- ---- the ones-count
 
 -- the ones-count of a word counts its members
 pub ones_count : (n x : ℕ) → x < 2 ^ n → ones x ≡ count_below n (bit x)
