@@ -11,7 +11,7 @@ use event_log::Event;
 use sides::{Monitor, kept, moved, restarted};
 
 // At the first event nothing moves, and its restart flag is not looked at.
-#[tactic(auto, using(sides::specs::SidesRight::advanced_new, sides::specs::SidesRight::advanced_next, sides::specs::SidesRight::advanced_first))]
+#[tactic(auto, using(sides::proofs::SidesRight::advanced_new, sides::proofs::SidesRight::advanced_next, sides::proofs::SidesRight::advanced_first))]
 pub fn advance<'a>(
     label: &[u16],
     next: &[u64],
@@ -60,7 +60,7 @@ pub fn catch_up<'a>(
 }
 
 // An event, behind so many that are missing before it. Mostly none is, and then nothing but the event is looked at.
-#[tactic(auto, using(sides::specs::SidesRight::came_at_once, sides::specs::SidesRight::came_behind))]
+#[tactic(auto, using(sides::proofs::SidesRight::came_at_once, sides::proofs::SidesRight::came_behind))]
 pub fn take<'a>(
     label: &[u16],
     next: &[u64],

@@ -1,3 +1,2 @@
 pub mod Paper
 pub mod Chain
-pub mod Promises

@@ -1,9 +1,5 @@
 pub mod Around
-pub mod Places
-pub mod Round
-pub mod Rows
 pub mod Fill
 pub mod Turns
-pub mod Right
 pub mod Along
 pub mod Sense

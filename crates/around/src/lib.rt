@@ -67,7 +67,7 @@ fn stacks_of(rule: Rule, labels: &[u16], stem: usize) -> Stacks
 }
 
 // Where position p stands among n positions, of which the first `stem` are the stem.
-#[tactic(auto, using(crate::specs::Places::in_stem, crate::specs::Places::in_round, crate::specs::Places::place_below))]
+#[tactic(auto, using(crate::proofs::Places::in_stem, crate::proofs::Places::in_round, crate::proofs::Places::place_below))]
 pub fn place_of(stem: usize, n: usize, p: usize) -> usize
     requires { stem < n }
     ensures { (result ≡ place stem n p) × (result < n) }
@@ -79,7 +79,7 @@ pub fn place_of(stem: usize, n: usize, p: usize) -> usize
 }
 
 // Whether the rule holds at position p of the endless word that these labels go through, the stem once and then the loop for ever.
-#[tactic(auto, using(crate::specs::Right::around_means, crate::specs::Turns::around_asked))]
+#[tactic(auto, using(crate::proofs::Right::around_means, crate::specs::Turns::around_asked))]
 pub fn holds_around(rule: Rule, labels: &[u16], stem: usize, p: usize) -> bool
     requires { (rule.len ≤ 32) × (stem < length labels.now) × (length labels.now ≤ 4096) }
     ensures is { result ≡ around_of rule labels.now stem p }

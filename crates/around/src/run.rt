@@ -33,7 +33,7 @@ pub fn labels_along(label: &[u16], run: &[u8]) -> Along
 }
 
 // Whether the rule holds at position p of the run.
-#[tactic(auto, using(crate::specs::Along::labels_are, crate::specs::Along::run_means, std::proofs::lemmas::Grind::common_steps))]
+#[tactic(auto, using(crate::specs::Along::labels_are, crate::proofs::AlongLaws::run_means, std::proofs::lemmas::Grind::common_steps))]
 pub fn holds_on_run(rule: Rule, label: &[u16], run: &[u8], stem: usize, p: usize) -> bool
     requires { (rule.len ≤ 32) × (stem < length run.now) × (length run.now ≤ 4096) }
     ensures is { result ≡ around_of rule (labels_of label.now run.now) stem p }

@@ -32,7 +32,7 @@ use Rattle.stretches.specs.Sheet.{blank, empty_sheet, first_line, more_line, beg
 use Rattle.day_sheet.specs.declared.Noted.{Noted}
 use Rattle.day_sheet.specs.Afresh.{Numbered, numbered_by, verdict_in}
 use Rattle.day_sheet.specs.Calls.{Day, opens_of, note_step, sheet_after, is_full, refused_with, note_by, overfull_by, noted_of}
-use Rattle.day_sheet.specs.Promises.{lines_after, begun, noted_through, accepted_ones, always_afresh}
+use Rattle.day_sheet.proofs.Promises.{lines_after, begun, noted_through, accepted_ones, always_afresh}
 use Rattle.day_words.specs.Words.{line_in, lines_in, sheet_in}
 use Rattle.day_words.specs.Promises.{stored_back}
 use Rattle.box_calls.specs.Calls.{held_of, box_opened, stepped_in, box_by}

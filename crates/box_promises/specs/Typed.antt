@@ -28,7 +28,7 @@ use Rattle.rule.specs.Promises as rules
 use Rattle.live.specs.Prepare.{prepared_of}
 use Rattle.live.specs.Promises.{prepare_accepted}
 use Rattle.monitor.specs.Calls.{open_call}
-use Rattle.course.specs.CourseRight.{opened_fitting}
+use Rattle.course.proofs.CourseRight.{opened_fitting}
 use Rattle.opened.specs.declared.Opened.{Opened}
 use Rattle.opened.specs.Opened.{made, or_refused, fair_in, label_in, next_in, rule_opened, parts_opened, table_opened, opened_of}
 use Rattle.slate.specs.Box.{code_of}

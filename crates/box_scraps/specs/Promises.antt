@@ -22,7 +22,7 @@ use Rattle.front_door.specs.FromLog.{behind_rule}
 use Rattle.radio.specs.declared.Radio.{Radio}
 use Rattle.radio.specs.Radio.{Heard, hear_all}
 use Rattle.radio.specs.Kept.{radio_of, heard_by}
-use Rattle.radio.specs.Ending.{all_fine}
+use Rattle.radio.proofs.Ending.{all_fine}
 use Rattle.scraps.specs.Calls.{heard_answer, Took, took_by, take_outcome, take_call, finish_call}
 use Rattle.scraps.specs.Laws.{take_parts, fitting}
 use Rattle.cuttings.specs.Scraps.{Scrap, radio_after, said}
@@ -31,7 +31,8 @@ use Rattle.scraps_right.specs.FromTexts.{scraps_right_lem}
 use Rattle.slate.specs.Box.{fits_in, held_in, with_monitor}
 use Rattle.slate.specs.Promises.{Sets, changed, monitor_back, counted_fits}
 use Rattle.radio_words.specs.Words.{radio_in, can_stand, with_radio}
-use Rattle.radio_words.specs.Promises.{Sendable, others_stay, radio_back, words_stand}
+use Rattle.radio_words.specs.Promises.{Sendable, others_stay, words_stand}
+use Rattle.radio_words.proofs.Promises.{radio_back}
 use Rattle.radio_words.specs.Sends.{silent_sendable, take_sendable}
 use Rattle.box_calls.specs.Calls.{held_of, box_opened}
 use Rattle.box_radio.specs.Radios.{took_from, end_from, took_in, end_in, box_by, box_taken}

@@ -31,10 +31,11 @@ use Rattle.event_log.specs.Log.{nothing}
 use Rattle.event_log.specs.Lead.{is_given}
 use Rattle.event_log.specs.Promises.{AllWritable}
 use Rattle.watching.specs.Filled.{expected_from, seen_from, filled, expected_at, number_at, expected_append}
-use Rattle.within.specs.Seen.{Uses, holds_same}
+use Rattle.within.specs.Seen.{Uses}
+use Rattle.within.proofs.SeenLaws.{holds_same}
 use Rattle.within.specs.Props.{props_of, sees_all, sees_say}
 use Rattle.within.specs.Turn.{ahead_from, stack_from}
-use Rattle.within.specs.Right.{within_told}
+use Rattle.within.proofs.Right.{within_told}
 use Rattle.closing.specs.declared.ClosingVerdict.{ClosingVerdict}
 use Rattle.closing.specs.declared.ClosingVerdict.TheVariants.{Inconclusive, PresumablyTrue, PresumablyFalse}
 use Rattle.last_stretch.specs.declared.Found.{Found}

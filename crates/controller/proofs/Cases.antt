@@ -18,8 +18,8 @@ use Rattle.syntax.specs.declared.Rule.{Rule}
 use Rattle.event_log.specs.declared.LogRead.{LogRead}
 use Rattle.event_log.specs.Line.{line_fixed}
 use Rattle.event_log.specs.Read.{is_numbered, bytes_in, event_at, whole_lines, log_read}
-use Rattle.event_log.specs.Promises.{accepted_text}
-use Rattle.event_log.specs.Forms.{lines_many}
+use Rattle.event_log.proofs.Promises.{accepted_text}
+use Rattle.event_log.proofs.Forms.{lines_many}
 use Rattle.answers.specs.Chain.{and_then, unless, chain_accepts, unless_accepts}
 use Rattle.course.specs.declared.Went.{Went}
 use Rattle.course.specs.Laid.{laid, laid_over}

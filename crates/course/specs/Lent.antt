@@ -12,7 +12,7 @@ use Rattle.event_log.specs.declared.Event.{Event}
 use Rattle.event_numbers.specs.Numbers.{number_of, missing_of}
 use Rattle.sides.specs.declared.Monitor.{Monitor}
 use Rattle.sides.specs.Sides.{sides_of, split_of, kept_of, moved_by, restarted_by, advanced_by, caught_up_by, came_by, expecting}
-use Rattle.sides.specs.SidesRight.{restarted_whole, advanced_new, advanced_next, came_at_once}
+use Rattle.sides.proofs.SidesRight.{restarted_whole, advanced_new, advanced_next, came_at_once}
 
 module _ (label next leave enter holds : List ℕ) (count : ℕ) (live : List ℕ) where
   -- whatever the case is, the number stays, and an event came

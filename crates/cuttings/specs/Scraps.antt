@@ -16,10 +16,10 @@ use Rattle.monitor.specs.declared.Watched.{Watched}
 use Rattle.monitor.specs.Calls.{step_call}
 use Rattle.radio.specs.declared.Radio.{Radio}
 use Rattle.radio.specs.Radio.{Ear, Heard, hear_all}
-use Rattle.radio.specs.Pieces.{hears_no_more}
+use Rattle.radio.proofs.PiecesLaws.{hears_no_more}
 use Rattle.radio.specs.Kept.{ear_of, radio_of, heard_by}
 use Rattle.radio.specs.Laws.{padded_back}
-use Rattle.radio.specs.Turning.{line_few}
+use Rattle.radio.proofs.Turning.{line_few}
 use Rattle.scraps.specs.Calls.{Took, took_by, take_outcome, take_call}
 use Rattle.cuttings.specs.Cut.{joined, behind, all_behind, Sound, sound_all}
 

@@ -19,9 +19,9 @@ use Rattle.stretches.specs.declared.Stretch.{Stretch}
 use Rattle.stretches.specs.declared.DaySheet.{DaySheet}
 use Rattle.stretches.specs.Sheet.{blank, sheet_of}
 use Rattle.stretches.specs.Afresh.{Shown, before, stretches_from, stretches, first_number, line_of, lines_of}
-use Rattle.stretches.specs.Laws.{Low}
+use Rattle.stretches.proofs.Laws.{Low}
 use Rattle.day_sheet.specs.Afresh.{shown_of}
-use Rattle.day_sheet.specs.Promises.{Kept, expected_low, accepted_ones, noted_through, always_kept}
+use Rattle.day_sheet.proofs.Promises.{Kept, expected_low, accepted_ones, noted_through, always_kept}
 use Rattle.day_writer.specs.Text.{decided_text, line_text, lines_text, sheet_text}
 use Rattle.day_writer.specs.Promises.{Counted, at_most_4800}
 

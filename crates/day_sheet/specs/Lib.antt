@@ -2,4 +2,3 @@ pub mod Afresh
 pub mod Calls
 pub mod Code
 pub mod Right
-pub mod Promises

@@ -41,7 +41,7 @@ use Rattle.event_log.specs.Legal.{event_of}
 use Rattle.sides.specs.Held.{model_of, monitor_of}
 use Rattle.event_numbers.specs.Numbers.{number_of, missing_of, first_none, unseen, brings}
 use Rattle.sides.specs.Sides.{advanced_in}
-use Rattle.sides.specs.SidesRight.{advanced_right}
+use Rattle.sides.proofs.SidesRight.{advanced_right}
 use Rattle.monitor.specs.declared.Watched.{Watched}
 use Rattle.monitor.specs.Calls.{watched, step_checked, step_call}
 use Rattle.monitor.specs.Promises.{step_accepted}

@@ -30,7 +30,7 @@ use Rattle.monitor.specs.declared.Watched.{Watched}
 use Rattle.monitor.specs.Calls.{step_call}
 use Rattle.radio.specs.declared.Radio.{Radio}
 use Rattle.radio.specs.Radio.{Heard, begins, stopped, kept, answered, ended, lengthened, byte_heard, hear, hear_all}
-use Rattle.radio.specs.Pieces.{hears_no_more}
+use Rattle.radio.proofs.PiecesLaws.{hears_no_more}
 use Rattle.radio.specs.Kept.{heard_by, radio_of}
 use Rattle.scraps.specs.declared.Taken.{Taken}
 use Rattle.scraps.specs.Calls.{longest, lines_in, room_outcome, heard_answer, took_by, take_outcome, take_call}

@@ -18,8 +18,8 @@ use Rattle.syntax.specs.Value.{rule_of}
 use Rattle.event_log.specs.declared.Event.{Event}
 use Rattle.event_log.specs.declared.LogRead.{LogRead}
 use Rattle.event_log.specs.Read.{bytes_in, log_read}
-use Rattle.event_log.specs.Promises.{accepted_text}
-use Rattle.event_log.specs.Forms.{lines_many}
+use Rattle.event_log.proofs.Promises.{accepted_text}
+use Rattle.event_log.proofs.Forms.{lines_many}
 use Rattle.checks.specs.Input.{formula_is}
 use Rattle.sides.specs.declared.Monitor.{Monitor}
 use Rattle.sides.specs.Held.{model_of, lamp_in}

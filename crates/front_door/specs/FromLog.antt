@@ -12,7 +12,7 @@ use Rattle.meaning.specs.Run as run
 use Rattle.meaning.specs.Limits.{AcceptedTable}
 use Rattle.words.specs.Over.{over}
 use Rattle.text.specs.Number.{width_of}
-use Rattle.text.specs.LinesChoice.{first_of}
+use Rattle.text.proofs.LinesChoice.{first_of}
 use Rattle.text.specs.Cases.{below_or_beyond}
 use Rattle.answers.specs.declared.Verdict.{Verdict}
 use Rattle.answers.specs.declared.Verdict.TheVariants.{Inconclusive}
@@ -39,6 +39,7 @@ use Rattle.event_log.specs.Line.{line_bytes}
 use Rattle.event_log.specs.Log.{gives}
 use Rattle.event_log.specs.Read.{bytes_in, log_read, event_at}
 use Rattle.event_log.specs.Promises as logs
+use Rattle.event_log.proofs.Promises as logs_laws
 use Rattle.checks.specs.Input.{Input, formula_is}
 use Rattle.live.specs.Prepare.{prepared_of}
 use Rattle.live.specs.Promises.{prepare_accepted}
@@ -160,7 +161,7 @@ module _ (t : run.Plant) (table : AcceptedTable t) (text : List ℕ) (says : Say
 
     module _ (log : List ℕ) (es : List Event) (log_says : SaysLog (bytes log) t.props es) where
       pub log_read_lem : log_read (width_of t.props) log ≡ record { outcome = Accepted; lines = length es }
-      log_read_lem = ap (log_read (width_of t.props)) (ap bytes_of log_says.is) ∙ (logs.small_read (width_of t.props) es log_says.text log_says.writable log_says.said).0
+      log_read_lem = ap (log_read (width_of t.props)) (ap bytes_of log_says.is) ∙ (logs_laws.small_read (width_of t.props) es log_says.text log_says.writable log_says.said).0
 
       pub taken : Taken (width_of t.props) log es
       taken = subst (λ (s : List ℕ). Taken (width_of t.props) s es) (sym (ap bytes_of log_says.is)) (log_taken log_says)
@@ -201,7 +202,7 @@ module _ (text : List ℕ) (before : List ℕ) where
   module _ (t : run.Plant) (says : SaysTable (bytes text) t) (table : AcceptedTable t) where
     of_log : (rule : List ℕ) (f : Formula) → SaysBare rule t.props f → (log : List ℕ) → OfLog t f log before (buffer_of text rule log before) (answer_of text rule log before)
     unfolding log_checked
-    of_log rule f rule_says log = by (logs.reading (width_of t.props) log)
+    of_log rule f rule_says log = by (logs_laws.reading (width_of t.props) log)
       where
         -- by what the check of the log and the buffer says
         refused_by_lem : {kind : Kind} {i : ℕ} → log_checked t.props log (length before) ≡ Refused (refused_at kind i) → Untouched kind i before (buffer_of text rule log before) (answer_of text rule log before)

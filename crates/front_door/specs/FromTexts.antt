@@ -41,8 +41,9 @@ use Rattle.event_log.specs.declared.Event.{Event}
 use Rattle.event_log.specs.Line.{line_bytes}
 use Rattle.event_log.specs.declared.LogRead.{LogRead}
 use Rattle.event_log.specs.Promises as logs
-use Rattle.event_log.specs.Promises.{small_read}
-use Rattle.event_log.specs.Forms.{first_is, lines_many}
+use Rattle.event_log.proofs.Promises as logs_laws
+use Rattle.event_log.proofs.Promises.{small_read}
+use Rattle.event_log.proofs.Forms.{first_is, lines_many}
 use Rattle.checks.specs.Input.{Input, given, formula_is}
 use Rattle.report.specs.Text.{lf}
 use Rattle.transcript.specs.Said as said
@@ -180,13 +181,13 @@ module _ (plant : File) (t : run.Plant) (says : SaysTable plant t) (table : Acce
 
     of_log : (log : File) → OfLog t f log (output_of plant rule log)
     of_log missing = no_log refl (behind_both missing)
-    of_log (bytes text) = by (logs.reading (width_of t.props) text)
+    of_log (bytes text) = by (logs_laws.reading (width_of t.props) text)
       where
         by : logs.Reading (width_of t.props) text → OfLog t f (bytes text) (output_of plant rule (bytes text))
         by (logs.accepted es ok small r at) =
             let log_says : SaysLog (bytes text) t.props es = record { text = text; is = refl; said = small; writable = ok } in
             lamps es log_says (front_door_lem plant rule (bytes text) t f es says table rule_says log_says)
-        by (logs.misformed i p r) = log_refused text i refl (stops (logs.form_exactly (width_of t.props)) p) (behind_both (bytes text) ∙ rw (ap (λ (x : LogRead). x.outcome) r) refl)
+        by (logs.misformed i p r) = log_refused text i refl (stops (logs_laws.form_exactly (width_of t.props)) p) (behind_both (bytes text) ∙ rw (ap (λ (x : LogRead). x.outcome) r) refl)
 
   of_rule : (rule log : File) → OfRule t rule log (output_of plant rule log)
   unfolding said.rule_text

@@ -10,7 +10,7 @@ use Rattle.std.proofs.Math.ListN.{get_or, get_or-append}
 use Rattle.std.proofs.lemmas.List.{get_or_at}
 use Rattle.words.specs.Tests.{below_cases}
 use Rattle.text.specs.Number.{width_of}
-use Rattle.text.specs.LinesChoice.{first_of}
+use Rattle.text.proofs.LinesChoice.{first_of}
 use Rattle.meaning.specs.Says.{Says}
 use Rattle.meaning.specs.Formula.{Formula}
 use Rattle.meaning.specs.Run as run
@@ -47,7 +47,7 @@ use Rattle.watching.specs.Watching as watching
 use Rattle.watching.specs.Filled.{expected_from, seen_from, filled, expected_at, number_at, InTurnAt}
 use Rattle.watching.specs.Watching.{TakenFrom, AllTaken, after, after_model, run_seen, shows, brought, checks_pass, live_fits, open_held, full}
 use Rattle.course.specs.Course.{Course, takes, number_in, go_on, course_to}
-use Rattle.course.specs.CourseRight.{held_at}
+use Rattle.course.proofs.CourseRight.{held_at}
 use Rattle.report.specs.Text.{start_text}
 use Rattle.lamp_lines.specs.Lines.{dark, lines_text, lines_same}
 use Rattle.transcript.specs.Said as said

@@ -20,14 +20,14 @@ use Rattle.answers.specs.declared.Answer.{Answer}
 use Rattle.answers.specs.declared.Answer.TheVariants.{Shown}
 use Rattle.answers.specs.declared.Answer.TheVariants as Answers
 use Rattle.answers.specs.Paper.{Paper, verdict, refused, accepted, number_of}
-use Rattle.answers.specs.Promises.{one_answer}
+use Rattle.answers.proofs.Promises.{one_answer}
 use Rattle.plant.specs.Text.{table_reads}
 use Rattle.plant.specs.Promises.{table_out, accepted_formed}
 use Rattle.syntax.specs.Grammar.{SaidBy}
 use Rattle.rule.specs.Promises.{one_tree}
 use Rattle.event_log.specs.declared.Event.{Event}
 use Rattle.event_log.specs.Log.{log_whole}
-use Rattle.event_log.specs.Promises.{log_out}
+use Rattle.event_log.proofs.Promises.{log_out}
 use Rattle.report.specs.Text.{start_text}
 use Rattle.lamp_lines.specs.Lines.{dark, lines_text}
 use Rattle.transcript.specs.Said.{File, bytes_of}

@@ -9,7 +9,7 @@ use Rattle.meaning.specs.Limits.{AcceptedTable}
 use Rattle.pairs.specs.declared.Pairs.{Pairs}
 use Rattle.text.specs.Number.{width_of}
 use Rattle.text.specs.Written.{small_of}
-use Rattle.text.specs.LinesChoice.{first_of}
+use Rattle.text.proofs.LinesChoice.{first_of}
 use Rattle.answers.specs.declared.Refusal.{Refusal}
 use Rattle.answers.specs.declared.Outcome.TheVariants as Outcomes
 use Rattle.answers.specs.Paper.{refused_at}
@@ -27,6 +27,7 @@ use Rattle.event_log.specs.Line.{line_bytes}
 use Rattle.event_log.specs.Log.{gives}
 use Rattle.event_log.specs.Read.{bytes_in, event_at}
 use Rattle.event_log.specs.Promises as logs
+use Rattle.event_log.proofs.Promises as logs_laws
 use Rattle.checks.specs.Input.{formula_is}
 use Rattle.sides.specs.declared.Monitor.{Monitor}
 use Rattle.monitor.specs.Calls.{open_call}
@@ -153,7 +154,7 @@ module _ (text : List ℕ) where
 
     of_log : (rule : List ℕ) (f : Formula) → SaysBare rule t.props f → (log : List ℕ) → OfLog t f log (minutes_of text rule log)
     unfolding minutes_of
-    of_log rule f rule_says log = by (logs.reading (width_of t.props) log)
+    of_log rule f rule_says log = by (logs_laws.reading (width_of t.props) log)
       where
         by : logs.Reading (width_of t.props) log → OfLog t f log (minutes_of text rule log)
         by (logs.misformed i p r) =

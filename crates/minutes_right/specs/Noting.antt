@@ -44,7 +44,7 @@ use Rattle.stretches.specs.Sheet.{empty_sheet}
 use Rattle.day_sheet.specs.declared.Noted.{Noted}
 use Rattle.day_sheet.specs.Afresh.{shown_of}
 use Rattle.day_sheet.specs.Calls.{opens_of, sheet_after, is_full, refused_with, note_by, overfull_by, noted_of}
-use Rattle.day_sheet.specs.Promises.{Kept, lines_after, one_more, accepted_from, noted_through, always_kept}
+use Rattle.day_sheet.proofs.Promises.{Kept, lines_after, one_more, accepted_from, noted_through, always_kept}
 use Rattle.day_log.specs.declared.DayWent.{DayWent}
 use Rattle.day_log.specs.Day.{takes, go_on, day_to}
 use Rattle.minutes_right.specs.DayMinutes.{SheetAfter}

@@ -11,7 +11,7 @@ use Rattle.meaning.specs.Event as meaning
 use Rattle.answers.specs.declared.Kind.{Kind}
 use Rattle.answers.specs.declared.Kind.TheVariants.{IllegalEvent, Stretches, Number as NumberKind}
 use Rattle.answers.specs.declared.Outcome.TheVariants.{Accepted}
-use Rattle.answers.specs.Promises.{one_verdict}
+use Rattle.answers.proofs.Promises.{one_verdict}
 use Rattle.event_log.specs.declared.Event.{Event}
 use Rattle.event_log.specs.Legal.{event_of}
 use Rattle.event_log.specs.Log.{nothing}

@@ -13,7 +13,7 @@ use Rattle.model.specs.LiveSet.{live_set}
 use Rattle.model.specs.Monitor as model
 use Rattle.model.proofs.Log.{log_right}
 use Rattle.answers.specs.Paper.{number_of}
-use Rattle.answers.specs.Promises.{verdict_number}
+use Rattle.answers.proofs.Promises.{verdict_number}
 use Rattle.plant.specs.declared.Plant.{Plant}
 use Rattle.syntax.specs.declared.Rule.{Rule}
 use Rattle.event_log.specs.declared.Event.{Event}

@@ -34,7 +34,7 @@ use Rattle.sides.specs.declared.Monitor.{Monitor}
 use Rattle.sides.specs.Held.{model_of, monitor_of}
 use Rattle.event_numbers.specs.Numbers.{number_of, brings, in_turn, in_turn_says, event_outcome}
 use Rattle.sides.specs.Sides.{opened_by, taken_in}
-use Rattle.sides.specs.SidesRight.{opened_right, taken_right}
+use Rattle.sides.proofs.SidesRight.{opened_right, taken_right}
 use Rattle.monitor.specs.declared.Watched.{Watched}
 use Rattle.monitor.specs.Calls.{no_monitor, lamp_of, watched, lit, table, formula, checked_of, open_call, monitor_fits, look_call, step_checked, step_call}
 use Rattle.monitor.specs.Checked.{fit_of, held_of, caught_of}

@@ -21,7 +21,7 @@ use Rattle.answers.specs.declared.Answer.TheVariants as Answers
 use Rattle.answers.specs.declared.Outcome.{Outcome}
 use Rattle.answers.specs.declared.Outcome.TheVariants.{Accepted, Refused}
 use Rattle.answers.specs.Paper.{verdict, paper}
-use Rattle.answers.specs.Promises.{verdict_number}
+use Rattle.answers.proofs.Promises.{verdict_number}
 use Rattle.answers.specs.Chain.{and_then, unless, chain_accepts, unless_accepts}
 use Rattle.plant.specs.declared.Plant.{Plant}
 use Rattle.syntax.specs.declared.Rule.{Rule}

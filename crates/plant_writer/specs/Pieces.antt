@@ -1,6 +1,6 @@
 -- A table's text in the pieces in which it is written, and what a piece needs of room.
 use Rattle.std.specs.Prelude.{ℕ, zero, suc, ◌+◌, ◌-◌, ◌/◌, ◌%◌, ◌≤◌, ◌<◌, ◌≡◌, refl, List, [], ◌∷◌, ◌++◌, length, get_or}
-use Rattle.std.proofs.Common.{sym, ap, ◌∙◌, append_assoc, ⊎_elim, eq-or-lt_of_le, le_of_suc-le-suc, add-one, arith, lt-ltb, le-ltb, length-append}
+use Rattle.std.proofs.Common.{ap, append_assoc, ⊎_elim, eq-or-lt_of_le, le_of_suc-le-suc, add-one, arith, lt-ltb, le-ltb, length-append}
 use Rattle.std.proofs.lemmas.List.{map-append, length-map}
 use Rattle.meaning.specs.Run as run
 use Rattle.writing.specs.Put.{Put, puts, put_length, put_none}
@@ -192,13 +192,3 @@ module _ (p : Plant) (fair label next : List ℕ) where
 
   abbrev pub rows_of : List Slot
   rows_of = lines_below (length label) (row_lines (width_of p.props) label next)
-
-  module _ {room : ℕ} (w : Writable p fair label next room) where
-    whole : table_text (plant_of p fair label next) ≡ text_of ((head_of ++ fair_of) ++ rows_of)
-    whole = ap text_of (in_pieces (plant_of p fair label next) ∙ ap (λ (n : ℕ). (head_of ++ fair_of) ++ lines_below n (row_lines (width_of p.props) label next)) (sym w.labels))
-
-    pub all_fit : 0 + length ((head_of ++ fair_of) ++ rows_of) ≤ room
-    all_fit = omega (arith, w.fits, ap length whole, length-map ((head_of ++ fair_of) ++ rows_of) written)
-
-    pub put_whole : {before now : List ℕ} {end : ℕ} → Put before 0 (text_of ((head_of ++ fair_of) ++ rows_of)) now end → Put before 0 (table_text (plant_of p fair label next)) now end
-    put_whole q = rw whole q

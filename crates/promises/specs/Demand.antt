@@ -21,7 +21,7 @@ use Rattle.model.proofs.Witness.{Witness}
 use Rattle.answers.specs.declared.Answer.{Answer}
 use Rattle.answers.specs.declared.Answer.TheVariants.{Shown, Refused}
 use Rattle.answers.specs.Paper.{verdict, paper, number_of, kind_number}
-use Rattle.answers.specs.Promises.{verdict_number}
+use Rattle.answers.proofs.Promises.{verdict_number}
 use Rattle.plant.specs.declared.Plant.{Plant}
 use Rattle.syntax.specs.declared.Rule.{Rule}
 use Rattle.event_log.specs.declared.Event.{Event}

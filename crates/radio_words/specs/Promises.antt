@@ -8,7 +8,7 @@ use native.Mathlib.Omega.{arith}
 use Rattle.std.proofs.Math.Nat.{div-div-eq-div-mul}
 use Rattle.std.proofs.Math.ListN.{get_or}
 use borrow.Author.Tests.{lt-ltb, le-ltb}
-use Rattle.words.specs.Lists.{list_at, list_of}
+use Rattle.words.specs.Lists.{list_at}
 use Rattle.answers.specs.declared.Kind.TheVariants.{IllegalEvent, LogText, Number}
 use Rattle.answers.specs.declared.Outcome.{Outcome}
 use Rattle.answers.specs.declared.Outcome.TheVariants.{Accepted, Refused}
@@ -16,7 +16,7 @@ use Rattle.answers.specs.Paper.{refused_at}
 use Rattle.radio.specs.declared.Form.{Form}
 use Rattle.radio.specs.declared.Form.TheVariants.{Unknown, Plain, Numbered}
 use Rattle.radio.specs.declared.Radio.{Radio}
-use Rattle.radio_words.specs.Words.{byte_in, part_in, form_in, standing_in, radio_in, can_stand, pack_below, packed_at, form_code, standing_code, standing_place, radio_word, changed_word, with_radio}
+use Rattle.radio_words.specs.Words.{can_stand, pack_below, form_code, standing_code, standing_place, radio_word, changed_word, with_radio}
 
 -- what can stand: nothing, an event's refusal, 10 or 16, or a byte's, 12
 pub data Stands : Outcome → Type 0 where
@@ -56,7 +56,7 @@ module _ (f : ℕ → ℕ) (small : (i : ℕ) → f i < 256) where
       omega (arith, below n, most)
 
   -- byte j from the lowest on
-  digit : (j n m : ℕ) → m ≡ j + n → m ≤ 7 → pack_below (suc m) f / 2 ^ (8 * j) % 256 ≡ f n
+  pub digit : (j n m : ℕ) → m ≡ j + n → m ≤ 7 → pack_below (suc m) f / 2 ^ (8 * j) % 256 ≡ f n
   unfolding pack_below
   digit zero n m e l = let same : m ≡ n = omega arith in rw same (omega (arith, small n))
   digit (suc j) n zero e l = absurd (omega arith)
@@ -77,7 +77,7 @@ module _ (w : List ℕ) (r : Radio) where
   unfolding with_radio
   now p l = list_at 384 (changed_word w r) p l
 
-  within : (k : ℕ) → k < 10 → get_or (with_radio w r) (363 + k) 0 ≡ radio_word r k
+  pub within : (k : ℕ) → k < 10 → get_or (with_radio w r) (363 + k) 0 ≡ radio_word r k
   unfolding changed_word
   within k l =
       let same : 363 + k - 363 ≡ k = omega arith in
@@ -89,55 +89,17 @@ module _ (w : List ℕ) (r : Radio) where
   others_stay p (inr (a, b)) = now p b ∙ rw (le-ltb p 363 (omega arith), le-ltb p 373 a) refl
 
   module _ (s : Sendable r) where
-    byte_back : (k : ℕ) → k < 40 → byte_in (with_radio w r) k ≡ get_or r.part k 0
-    unfolding byte_in radio_word packed_at
-    byte_back k l =
-        let same : 8 * (k / 8) + (7 - (7 - k % 8)) ≡ k = omega arith in
-        ap (λ x. x / 2 ^ (8 * (k % 8)) % 256) (within (k / 8) (omega arith) ∙ rw (lt-ltb (k / 8) 5 (omega arith)) refl)
-        ∙ digit (λ i. get_or r.part (8 * (k / 8) + (7 - i)) 0) (λ i. s.small (8 * (k / 8) + (7 - i))) (k % 8) (7 - k % 8) 7 (omega arith) (omega arith)
-        ∙ ap (λ i. get_or r.part i 0) same
-
-    part_back : part_in (with_radio w r) ≡ r.part
-    unfolding part_in
-    part_back = list_of 40 (byte_in (with_radio w r)) r.part s.long byte_back
-
-    len_back : get_or (with_radio w r) 368 0 ≡ r.len
-    unfolding radio_word
-    len_back = within 5 (omega arith)
-
-    start_back : get_or (with_radio w r) 369 0 ≡ r.start
-    unfolding radio_word
-    start_back = within 6 (omega arith)
-
-    form_word : get_or (with_radio w r) 370 0 ≡ form_code r.form
+    pub form_word : get_or (with_radio w r) 370 0 ≡ form_code r.form
     unfolding radio_word
     form_word = within 7 (omega arith)
 
-    number_word : get_or (with_radio w r) 371 0 ≡ standing_code r.standing
+    pub number_word : get_or (with_radio w r) 371 0 ≡ standing_code r.standing
     unfolding radio_word
     number_word = within 8 (omega arith)
 
-    place_word : get_or (with_radio w r) 372 0 ≡ standing_place r.standing
+    pub place_word : get_or (with_radio w r) 372 0 ≡ standing_place r.standing
     unfolding radio_word
     place_word = within 9 (omega arith)
-
-    form_back : (f : Form) → form_in (form_code f) ≡ f
-    unfolding form_in
-    form_back Unknown = refl
-    form_back Plain = refl
-    form_back Numbered = refl
-
-    standing_back : (o : Outcome) → Stands o → standing_in (standing_code o) (standing_place o) ≡ o
-    unfolding standing_in
-    standing_back _ nothing = refl
-    standing_back _ (illegal place) = refl
-    standing_back _ (byte place) = refl
-    standing_back _ (number place) = refl
-
-    pub radio_back : radio_in (with_radio w r) r.monitor ≡ r
-    unfolding radio_in
-    radio_back =
-        rw (part_back, len_back, start_back, form_word, number_word, place_word, form_back r.form, standing_back r.standing s.stands) refl
 
     few_forms : (f : Form) → ltb (form_code f) 3 ≡ true
     few_forms Unknown = refl

@@ -38,7 +38,7 @@ use Rattle.radio.specs.declared.Radio.{Radio}
 use Rattle.radio.specs.Radio.{Heard, begins, stopped, kept, answered, ended, byte_heard, hear, hear_all}
 use Rattle.radio.specs.Kept.{padded, heard_by, radio_of}
 use Rattle.radio.specs.Laws.{padded_long}
-use Rattle.radio.specs.Ending.{all_called}
+use Rattle.radio.proofs.Ending.{all_called}
 use Rattle.scraps.specs.Calls.{took_by, take_outcome, take_call}
 use Rattle.scraps.specs.Laws.{take_parts, fitting}
 use Rattle.radio_words.specs.Promises.{Stands, nothing, illegal, byte, number, Sendable}

@@ -9,7 +9,7 @@ use Rattle.answers.specs.declared.Outcome.{Outcome}
 use Rattle.answers.specs.declared.Outcome.TheVariants.{Accepted, Refused}
 use Rattle.answers.specs.Paper.{Paper, verdict, refused, accepted, kind_number, refusal}
 use Rattle.answers.specs.Chain.{refused_as, and_then, unless}
-use Rattle.answers.specs.Promises.{one_kind}
+use Rattle.answers.proofs.Promises.{one_kind}
 use Rattle.refusals.specs.Causes.{Rows, end, row, First, Because, NoCause, Taken}
 
 -- ---- tables

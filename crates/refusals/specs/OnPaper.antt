@@ -1,7 +1,7 @@
 -- Two answers of write_table, of print_rule, or of witness, that stand for the same on paper are equal, as those of the other calls are (answers/specs/Promises).
 use Rattle.std.specs.Prelude.{◌≡◌}
 use Rattle.std.proofs.Common.{sym, ap}
-use Rattle.answers.specs.Promises.{one_refusal}
+use Rattle.answers.proofs.Promises.{one_refusal}
 use Rattle.plant_writer.specs.declared.Wrote.{Wrote}
 use Rattle.plant_writer.specs.declared.Wrote.TheVariants as Wrotes
 use Rattle.plant_writer.specs.OnPaper.{wrote}

@@ -40,7 +40,7 @@ use Rattle.shown.specs.declared.Failing.TheVariants.{Start, Moves, Fairness, Agr
 use Rattle.shown.specs.Positions.{mark_of}
 use Rattle.shown.specs.Shown.{Starts, MovesOn, FairOn, AgreesAll, Firsts}
 use Rattle.shown.specs.Tests.{checked_of}
-use Rattle.shown.specs.Right.{run_is, checked_means}
+use Rattle.shown.proofs.Right.{run_is, checked_means}
 use Rattle.neighbour.specs.declared.sent.ShownRun.{ShownRun}
 use Rattle.neighbour.specs.declared.Judged.{Judged}
 use Rattle.neighbour.specs.declared.Judged.TheVariants.{Accepted, WrongRun, WrongVerdict, Stopped, Refused}

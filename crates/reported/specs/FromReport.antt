@@ -26,6 +26,7 @@ use Rattle.event_log.specs.declared.Event.{Event}
 use Rattle.event_log.specs.Log.{nothing}
 use Rattle.event_log.specs.Read.{bytes_in, event_at, whole_lines}
 use Rattle.event_log.specs.Promises as logs
+use Rattle.event_log.proofs.Promises as logs_laws
 use Rattle.sides.specs.declared.Monitor.{Monitor}
 use Rattle.watching.specs.Filled.{filled}
 use Rattle.course.specs.Course.{Course}
@@ -160,7 +161,7 @@ module _ (text : List ℕ) (claim : ℕ) (keep_stem keep_loop break_stem break_l
 
     of_log : (rule : List ℕ) (f : Formula) → SaysBare rule t.props f → (log : List ℕ) → OfLog claim keep_stem keep_loop break_stem break_loop t f log (judged_of text rule log sent)
     unfolding judged_of
-    of_log rule f rule_says log = by (logs.reading (width_of t.props) log)
+    of_log rule f rule_says log = by (logs_laws.reading (width_of t.props) log)
       where
         by : logs.Reading (width_of t.props) log → OfLog claim keep_stem keep_loop break_stem break_loop t f log (judged_of text rule log sent)
         by (logs.misformed i p r) =

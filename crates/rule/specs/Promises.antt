@@ -23,10 +23,10 @@ use Rattle.rule_value.specs.Valid.{valid_of, RuleValue}
 use Rattle.words.specs.Over.{over}
 use Rattle.rule.specs.Printing.{text_of, no_print, print_answer, print_buffer}
 use Rattle.rule_text.specs.Paper.{Beside, Takes, Because}
-use Rattle.rule_text.specs.Judged.{reads_rule, Accepts, text_accepted}
+use Rattle.rule_text.proofs.Judged.{reads_rule, Accepts, text_accepted}
 use Rattle.rule_value.specs.Values.{valid_exactly}
 use Rattle.rule.specs.Prints.{text_is, Printing, no_rule_lem, no_room, its_text_lem, printing, answer_none, answer_room, answer_text}
-use Rattle.rule_text.specs.Answering as answering
+use Rattle.rule_text.proofs.Answering as answering
 
 -- what stands in an answer of print_rule
 abbrev is_text : Printed → Bool

@@ -1,6 +1,4 @@
 pub mod Reading
 pub mod Paper
 pub mod Checks
-mod Known
-pub mod Judged
-pub mod Answering
+pub mod Known

@@ -31,7 +31,8 @@ use Rattle.course.specs.Course.{Course, takes, number_in, go_on, course_to, verd
 use Rattle.radio.specs.declared.Form.{Form}
 use Rattle.radio.specs.declared.Form.TheVariants.{Unknown}
 use Rattle.radio.specs.Radio.{Heard, agrees, form_of, good_of, stopped, kept, hear, hear_all}
-use Rattle.radio.specs.Pieces.{pieced, hears_no_more, pieces, first_same}
+use Rattle.radio.specs.Pieces.{pieced, first_same}
+use Rattle.radio.proofs.PiecesLaws.{hears_no_more, pieces}
 use Rattle.scraps_right.specs.Claims.{placed_at}
 use Rattle.scraps_right.specs.Front.{fit_front}
 use Rattle.scraps_right.specs.Lines.{form_at, between, heard_behind, agrees_own, first_is, good_own, none_kept, lines_heard}

@@ -35,8 +35,8 @@ use Rattle.radio.specs.declared.Radio.{Radio}
 use Rattle.radio.specs.Radio.{Heard, good_of, begins, stopped, kept, answered, byte_heard, hear, hear_all}
 use Rattle.radio.specs.Kept.{part_of, ear_of, radio_of, heard_by, kept_ok}
 use Rattle.radio.specs.Laws.{padded_none}
-use Rattle.radio.specs.Turning.{line_few}
-use Rattle.radio.specs.Ending.{all_fine}
+use Rattle.radio.proofs.Turning.{line_few}
+use Rattle.radio.proofs.Ending.{all_fine}
 use Rattle.scraps.specs.Calls.{longest, lines_in, part_fits, room_outcome, took_by, held_outcome, kept_outcome, take_outcome, take_call, finish_call}
 use Rattle.cuttings.specs.Cut.{Sound, sound_all}
 use Rattle.cuttings.specs.Scraps.{Scrap, ear_back, Fine, radio_after, AllFine, text}

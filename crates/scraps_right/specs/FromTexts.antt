@@ -18,7 +18,8 @@ use Rattle.event_log.specs.declared.Event.{Event}
 use Rattle.event_log.specs.declared.LogRead.{LogRead}
 use Rattle.event_log.specs.Log.{nothing}
 use Rattle.event_log.specs.Read.{log_read, whole_lines, event_at}
-use Rattle.event_log.specs.Promises.{log_slots, log_text, AllWritable, accepted_text}
+use Rattle.event_log.specs.Promises.{log_slots, log_text, AllWritable}
+use Rattle.event_log.proofs.Promises.{accepted_text}
 use Rattle.opened.specs.declared.Opened.{Opened}
 use Rattle.opened.specs.Opened.{opened_of}
 use Rattle.controller.specs.declared.LogAnswer.{LogAnswer}

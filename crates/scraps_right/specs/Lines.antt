@@ -27,7 +27,8 @@ use Rattle.course.specs.Course.{Course, takes, number_in, go_on, course_to, verd
 use Rattle.radio.specs.declared.Form.{Form}
 use Rattle.radio.specs.declared.Form.TheVariants.{Unknown}
 use Rattle.radio.specs.Radio.{Heard, agrees, form_of, good_of, answered, ended, hear, hear_all}
-use Rattle.radio.specs.Pieces.{Kept, pieced, hears_no_more, pieces}
+use Rattle.radio.specs.Pieces.{Kept, pieced}
+use Rattle.radio.proofs.PiecesLaws.{hears_no_more, pieces}
 use Rattle.scraps_right.specs.Claims.{placed_at}
 use Rattle.scraps_right.specs.Front.{fit_front, guess_front, last_fits, fit_long}
 

@@ -2,7 +2,7 @@
 use Rattle.std.specs.Prelude.{ℕ, ◌≡◌}
 use Rattle.std.proofs.Common.{ap, arith}
 use Rattle.answers.specs.Paper.{kind_number}
-use Rattle.answers.specs.Promises.{one_kind}
+use Rattle.answers.proofs.Promises.{one_kind}
 use Rattle.settings.specs.declared.SheetRefusal.{SheetRefusal}
 use Rattle.settings.specs.declared.Asked.{Asked}
 use Rattle.settings.specs.declared.Asked.TheVariants.{At, Refused}

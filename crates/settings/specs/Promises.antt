@@ -10,7 +10,7 @@ use Rattle.sheet.specs.declared.Scan.TheVariants.{Good, Bad}
 use Rattle.sheet.specs.Sheet.{Values, IsSheet, value_of, from_of}
 use Rattle.sheet.specs.Machine.{scan_of}
 use Rattle.sheet.specs.Read.{lines_of}
-use Rattle.sheet.specs.Promises.{accepted_exactly, refused_exactly}
+use Rattle.sheet.proofs.Promises.{accepted_exactly, refused_exactly}
 use Rattle.sheet.specs.Where.{length_of, length_told, start_told, value_stands, value_within, empty}
 use Rattle.settings.specs.declared.Asked.{Asked}
 use Rattle.settings.specs.declared.Asked.TheVariants.{At, Refused}

@@ -106,7 +106,7 @@ fn choose(own: Lines, common: Lines, key: Key) -> Asked
 }
 
 // Where the value of a key stands, or the refusal: 18 for the local sheet, 18 for the shared one, then 17.
-#[tactic(auto, using(sheet::specs::Where::scan_few), unfolding(crate::specs::Asked::asked))]
+#[tactic(auto, using(sheet::proofs::Where::scan_few), unfolding(crate::specs::Asked::asked))]
 pub fn ask<'a>(local: &'a [u8], shared: &'a [u8], key: Key) -> Asked
     ensures { result ≡ asked local.now shared.now key }
 {

@@ -2,7 +2,7 @@
 use Prim.Native.Nat.{ℕ, zero, suc, ◌+◌, ◌≤◌, ◌<◌}
 use Rattle.std.specs.Prelude.{◌≡◌, Bool, true, false, cond, eqb, ltb, get_or, drop}
 use Rattle.std.proofs.Math.Path.{refl, ap}
-use Rattle.std.proofs.Common.{sym, ◌∙◌, add-one, length-append, take-append-drop, take-suc, take_all}
+use Rattle.std.proofs.Common.{sym, ◌∙◌, add-one, take-append-drop, take-suc, take_all}
 use Rattle.std.proofs.lemmas.Bool.{false≢true}
 use mathlib.Core.List.{List, [], ◌∷◌, ◌++◌, append_assoc, append-nil}
 use native.Mathlib.Omega.{arith}
@@ -11,11 +11,9 @@ use borrow.Author.Tests.{ltb-true, ltb-false, eqb-true, eqb-false}
 use Rattle.sheet.specs.declared.Lines.{Lines}
 use Rattle.sheet.specs.declared.State.{State}
 use Rattle.sheet.specs.declared.State.TheVariants.{Before, Name, Value, Stuck}
-use Rattle.sheet.specs.declared.Grown.{Grown}
-use Rattle.sheet.specs.declared.Grown.TheVariants.{To, Not}
 use Rattle.sheet.specs.Sheet.{edition_key, rule_key, closing_key, Each, none, more, number_from, Values, line_of, text_of, Given, left_out, given, IsSheet, Begins}
-use Rattle.sheet.specs.Machine.{line_by, begun, key_byte, key_size, named, value_grown, further, ended, state_after, stuck, file_as, filed}
-use Rattle.sheet.specs.Value.{FineOf, amount, fine_some, fine}
+use Rattle.sheet.specs.Machine.{line_by, begun, key_byte, key_size, named, stuck, file_as}
+use Rattle.sheet.specs.Value.{FineOf, amount, fine_some}
 use Rattle.sheet.specs.Read.{key_of, lines_of}
 
 -- ---- a line more
@@ -27,7 +25,7 @@ value_at (suc (suc zero)) x = x.closing
 value_at (suc (suc (suc k))) x = []
 
 -- the values with that of line k put in
-abbrev put : ℕ → List ℕ → Values → Values
+abbrev pub put : ℕ → List ℕ → Values → Values
 put zero u x = record { edition = u; rule = x.rule; closing = x.closing }
 put (suc zero) u x = record { edition = x.edition; rule = u; closing = x.closing }
 put (suc (suc k)) u x = record { edition = x.edition; rule = x.rule; closing = u }
@@ -143,11 +141,11 @@ reached_begins {p} {l} (giving {k} s u x h e d (given f) a n) = goes_to k p (10 
 -- ---- a byte more
 
 -- what a test lets pass, where the machine is not stuck
-live : (t : Bool) (x : State) → stuck (cond t x Stuck) ≡ false → (t ≡ true) × (stuck x ≡ false)
+pub live : (t : Bool) (x : State) → stuck (cond t x Stuck) ≡ false → (t ≡ true) × (stuck x ≡ false)
 live true x e = (refl, e)
 live false x e = absurd (false≢true (sym e))
 
-alive : (t : Bool) (x : State) → stuck (cond t Stuck x) ≡ false → (t ≡ false) × (stuck x ≡ false)
+pub alive : (t : Bool) (x : State) → stuck (cond t Stuck x) ≡ false → (t ≡ false) × (stuck x ≡ false)
 alive true x e = absurd (false≢true (sym e))
 alive false x e = (refl, e)
 
@@ -183,7 +181,7 @@ take_more : (k i b : ℕ) → k < 3 → i < length (key_of k) → b ≡ key_byte
 take_more k i b h g e = rw (add-one i, take-suc (key_of k) i 0 g, e, key_byte_lem k i h)
 
 -- a value that has a byte is one
-given_fine : {Fine : List ℕ → Type 0} {u : List ℕ} → Given Fine u → 0 < length u → Fine u
+pub given_fine : {Fine : List ℕ → Type 0} {u : List ℕ} → Given Fine u → 0 < length u → Fine u
 given_fine left_out h = absurd (omega arith)
 given_fine (given f) h = f
 
@@ -195,7 +193,7 @@ amount_none (suc zero) = refl
 amount_none (suc (suc k)) = refl
 
 module _ {p : List ℕ} {l : Lines} (b : ℕ) where
-  before_more : {k : ℕ} (x : Values) → Lined k p x l → stuck (begun k (line_by b)) ≡ false → Reached (p ++ b ∷ []) l (begun k (line_by b))
+  pub before_more : {k : ℕ} (x : Values) → Lined k p x l → stuck (begun k (line_by b)) ≡ false → Reached (p ++ b ∷ []) l (begun k (line_by b))
   unfolding begun
   before_more {k} x d e =
       let j = line_by b in
@@ -212,7 +210,7 @@ module _ {p : List ℕ} {l : Lines} (b : ℕ) where
       later : (j : ℕ) → k ≤ j → Lined j p x l
       later j g = record { sheet = d.sheet; no_more = λ m h. d.no_more m (omega arith); lines = d.lines }
 
-  naming_more :
+  pub naming_more :
       {k i : ℕ} (s : List ℕ) (x : Values) → k < 3 → i < length (key_of k) → p ≡ s ++ take i (key_of k) → Lined k s x l → b ≡ key_byte k i
       → Reached (p ++ b ∷ []) l (named k (i + 1))
   unfolding named
@@ -229,35 +227,3 @@ module _ {p : List ℕ} {l : Lines} (b : ℕ) where
           let z = eqb-false (i + 1) (key_size k) q in
           let w = key_size_lem k h in
           naming {k = k} {i = i + 1} s x h (omega arith) (omega arith) text d
-
-  giving_more :
-      {k at n : ℕ} (s u : List ℕ) (x : Values) → k < 3 → p ≡ s ++ (key_of k ++ u) → Lined k s x l → Given (FineOf k) u → at ≡ length u → n ≡ amount k u
-      → stuck (state_after (Value k at n) b) ≡ false → Reached (p ++ b ∷ []) (filed l (Value k at n) b) (state_after (Value k at n) b)
-  unfolding state_after filed ended
-  giving_more {k} {at} {n} s u x h e d g a m r = by_test (eqb b 10) (eqb-true b 10) r
-    where
-      text : p ++ b ∷ [] ≡ s ++ (key_of k ++ (u ++ b ∷ []))
-      text = rw e (simp append_assoc)
-
-      line : (at ≡ 0 → ⊥) → b ≡ 10 → Reached (p ++ b ∷ []) (file_as l k at n) (Before (k + 1))
-      line z is = before {k = k + 1} (put k u x) (rw (text, is, a, m) (line_more k s u x l h (given_fine g (omega arith)) d))
-
-      grown : (y : Grown) → value_grown k at n b ≡ y → stuck (further k at y) ≡ false → Reached (p ++ b ∷ []) l (further k at y)
-      grown (To v) q z =
-          let f = fine k u b v h g (rw (a, m) at q) in
-          giving {at = at + 1} s (u ++ b ∷ []) x h text d (given f.0) (rw a (sym (length-append u (b ∷ [])))) f.1
-      grown Not q z = absurd (false≢true (sym z))
-
-      by_test :
-          (t : Bool) → (t ≡ true → b ≡ 10) → stuck (cond t (cond (eqb at 0) Stuck (Before (k + 1))) (further k at (value_grown k at n b))) ≡ false
-          → Reached (p ++ b ∷ []) (cond t (file_as l k at n) l) (cond t (cond (eqb at 0) Stuck (Before (k + 1))) (further k at (value_grown k at n b)))
-      by_test true is z = let c = alive (eqb at 0) (Before (k + 1)) z in rw c.0 (line (eqb-false at 0 c.0) (is refl))
-      by_test false is z = grown (value_grown k at n b) refl z
-
-pub reached_more : {p : List ℕ} {l : Lines} {st : State} → Reached p l st → (b : ℕ) → stuck (state_after st b) ≡ false → Reached (p ++ b ∷ []) (filed l st b) (state_after st b)
-unfolding state_after filed
-reached_more (before x d) b r = before_more b x d r
-reached_more (naming {k} {i} s x h g f e d) b r =
-    let c = live (eqb b (key_byte k i)) (named k (i + 1)) r in
-    rw c.0 (naming_more b s x h f e d (eqb-true b (key_byte k i) c.0))
-reached_more (giving s u x h e d g a m) b r = giving_more b s u x h e d g a m r

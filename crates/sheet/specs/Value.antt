@@ -9,7 +9,7 @@ use borrow.Author.Tests.{le-ltb, ltb-false, lt-leb, leb-false, ne_eqb, eqb-false
 use Rattle.sheet.specs.declared.Grown.{Grown}
 use Rattle.sheet.specs.declared.Grown.TheVariants.{To, Not}
 use Rattle.sheet.specs.Sheet.{Each, none, more, number_from, number_of, Decimal, Printable, Given, left_out, given}
-use Rattle.sheet.specs.Machine.{lead_zero, ranged, digit_grown, byte_grown, value_grown}
+use Rattle.sheet.specs.Machine.{lead_zero, ranged, digit_grown, byte_grown}
 
 -- ---- bytes within a range, and the number that digits make
 
@@ -75,7 +75,7 @@ module _ (lo hi : ℕ) (low : lo ≤ 1) (high : hi ≤ 65535) where
       omega arith
 
   -- a digit of a number is taken
-  digit_taken : (u v : List ℕ) (b : ℕ) → Decimal lo hi (u ++ b ∷ v) → digit_grown lo hi (length u) (number_of u) b ≡ To (number_of (u ++ b ∷ []))
+  pub digit_taken : (u v : List ℕ) (b : ℕ) → Decimal lo hi (u ++ b ∷ v) → digit_grown lo hi (length u) (number_of u) b ≡ To (number_of (u ++ b ∷ []))
   unfolding digit_grown
   digit_taken u v b d =
       let p = each_at u v b d.digits in
@@ -90,7 +90,7 @@ past false g m e = (refl, e)
 
 -- what is taken is a number again
 module _ (lo hi : ℕ) where
-  digit_fine : (u : List ℕ) (b m : ℕ) → Given (Decimal lo hi) u → digit_grown lo hi (length u) (number_of u) b ≡ To m → Decimal lo hi (u ++ b ∷ []) × (m ≡ number_of (u ++ b ∷ []))
+  pub digit_fine : (u : List ℕ) (b m : ℕ) → Given (Decimal lo hi) u → digit_grown lo hi (length u) (number_of u) b ≡ To m → Decimal lo hi (u ++ b ∷ []) × (m ≡ number_of (u ++ b ∷ []))
   unfolding digit_grown ranged lead_zero number_from
   digit_fine u b m g e =
       let n = number_of u * 10 + (b - 48) in
@@ -123,13 +123,13 @@ module _ (lo hi : ℕ) where
 
 -- ---- rules
 
-byte_taken_lem : (u v : List ℕ) (b : ℕ) → Printable (u ++ b ∷ v) → byte_grown (length u) b ≡ To 0
+pub byte_taken_lem : (u v : List ℕ) (b : ℕ) → Printable (u ++ b ∷ v) → byte_grown (length u) b ≡ To 0
 unfolding byte_grown
 byte_taken_lem u v b d =
     let p = each_at u v b d.bytes in
     simp (le-ltb b 32 p.0, le-ltb 126 b p.1, lt-leb 512 (length u) (omega (arith, d.most, length-append u (b ∷ v))))
 
-byte_fine : (u : List ℕ) (b m : ℕ) → Given Printable u → byte_grown (length u) b ≡ To m → Printable (u ++ b ∷ []) × (m ≡ 0)
+pub byte_fine : (u : List ℕ) (b m : ℕ) → Given Printable u → byte_grown (length u) b ≡ To m → Printable (u ++ b ∷ []) × (m ≡ 0)
 unfolding byte_grown
 byte_fine u b m g e =
     let p1 = past (ltb b 32) _ m e in
@@ -165,19 +165,3 @@ pub fine_some : (k : ℕ) (v : List ℕ) → FineOf k v → 0 < length v
 fine_some zero v f = f.some
 fine_some (suc zero) v f = f.some
 fine_some (suc (suc k)) v f = f.some
-
--- the machine takes each byte of a value, and none is an LF
-pub taken : (k : ℕ) (u v : List ℕ) (b : ℕ) → k < 3 → FineOf k (u ++ b ∷ v) → (value_grown k (length u) (amount k u) b ≡ To (amount k (u ++ b ∷ []))) × (b ≡ 10 → ⊥)
-unfolding value_grown
-taken zero u v b h f = (digit_taken 1 65535 (omega arith) (omega arith) u v b f, λ e. omega (arith, each_at u v b f.digits))
-taken (suc zero) u v b h f = (byte_taken_lem u v b f, λ e. omega (arith, each_at u v b f.bytes))
-taken (suc (suc zero)) u v b h f = (digit_taken 0 99 (omega arith) (omega arith) u v b f, λ e. omega (arith, each_at u v b f.digits))
-taken (suc (suc (suc k))) u v b h f = absurd (omega arith)
-
--- and what it takes is a value
-pub fine : (k : ℕ) (u : List ℕ) (b m : ℕ) → k < 3 → Given (FineOf k) u → value_grown k (length u) (amount k u) b ≡ To m → FineOf k (u ++ b ∷ []) × (m ≡ amount k (u ++ b ∷ []))
-unfolding value_grown
-fine zero u b m h g e = digit_fine 1 65535 u b m g e
-fine (suc zero) u b m h g e = byte_fine u b m g e
-fine (suc (suc zero)) u b m h g e = digit_fine 0 99 u b m g e
-fine (suc (suc (suc k))) u b m h g e = absurd (omega arith)

@@ -1,18 +1,15 @@
 -- Where the values stand in a sheet; so a text is a sheet with one set of values only.
 use Rattle.std.specs.Prelude.{ℕ, ◌+◌, ◌≤◌, ◌<◌, ◌≡◌, refl, cond, List, [], ◌∷◌, ◌++◌, eqb, length, take, drop}
-use Rattle.std.proofs.Common.{sym, ap, ap₂, ◌∙◌, append_assoc, append-nil, arith, length-append, length-take, length-drop}
-use Rattle.std.proofs.Math.Decide.{dec_lt}
+use Rattle.std.proofs.Common.{sym, ap, ap₂, append_assoc, append-nil, arith, length-append, length-take, length-drop}
 use Rattle.std.proofs.Math.Seq.{take-append_seam, drop-append_seam, drop-append-add}
 use Rattle.sheet.specs.declared.Lines.{Lines}
 use Rattle.sheet.specs.declared.Key.{Key}
 use Rattle.sheet.specs.declared.Key.TheVariants.{Edition, Rule, Closing}
-use Rattle.sheet.specs.declared.Scan.TheVariants.{Good}
 use Rattle.sheet.specs.Sheet.{edition_key, rule_key, closing_key, Values, line_of, text_of, IsSheet, value_of, from_of}
-use Rattle.sheet.specs.Machine.{scan_of}
-use Rattle.sheet.specs.Read.{lines_of, sheet_read}
+use Rattle.sheet.specs.Read.{lines_of}
 use Rattle.sheet.specs.Reached.{line_some}
 use Rattle.sheet.specs.Short.{line_length_lem, digits_few, bytes_few}
-use Rattle.sheet.specs.Promises.{Told, accepted_exactly}
+use Rattle.sheet.specs.Promises.{Told}
 
 -- ---- by the lines that the machine tells
 
@@ -93,28 +90,7 @@ pub empty : (v : List ℕ) → length v ≡ 0 → v ≡ []
 empty [] e = refl
 empty (b ∷ v) e = absurd (omega arith)
 
--- so a text has one set of values
-module _ (s : List ℕ) (x y : Values) (is : IsSheet s x) (it : IsSheet s y) where
-  same_lines : lines_of x ≡ lines_of y
-  same_lines = let e : Good (lines_of x) ≡ Good (lines_of y) = sym (sheet_read s x is) ∙ sheet_read s y it in cc e
-
-  same_value : (k : Key) → value_of k x ≡ value_of k y
-  same_value k =
-      let e : length (value_of k x) ≡ length (value_of k y) = sym (length_told k x) ∙ ap (length_of k) same_lines ∙ length_told k y in
-      let f : from_of k x ≡ from_of k y = sym (start_told k x) ∙ ap (start_of k) same_lines ∙ start_told k y in
-      elim (dec_lt 0 (length (value_of k x))) [
-        | yes h ↦ sym (value_stands s x k is h) ∙ ap₂ (λ n m. take n (drop m s)) e f ∙ value_stands s y k it (omega arith)
-        | no h ↦ empty (value_of k x) (omega arith) ∙ sym (empty (value_of k y) (omega arith))
-      ]
-
-  pub one_sheet : x ≡ y
-  one_sheet = λ i. record { edition = same_value Edition i; rule = same_value Rule i; closing = same_value Closing i }
-
 pub few_length : (l : Lines) (k : Key) → Few l → length_of k l ≤ 1024
 few_length l Edition f = f.edition
 few_length l Rule f = f.rule
 few_length l Closing f = f.closing
-
--- the lines of a text that is accepted
-pub scan_few : (s : List ℕ) (l : Lines) → scan_of s ≡ Good l → Few l
-scan_few s l e = told_few s l ((accepted_exactly s l).0 e)

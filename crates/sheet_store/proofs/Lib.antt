@@ -1,1 +1,3 @@
 pub mod Full
+pub mod Promises
+pub mod Nine

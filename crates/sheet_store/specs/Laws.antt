@@ -10,7 +10,7 @@ use Rattle.sheet.specs.declared.Lines.{Lines}
 use Rattle.sheet.specs.declared.Scan.TheVariants.{Good}
 use Rattle.sheet.specs.Machine.{scan_of}
 use Rattle.sheet.specs.Short.{sheet_short}
-use Rattle.sheet.specs.Promises.{accepted_exactly}
+use Rattle.sheet.proofs.Promises.{accepted_exactly}
 use Rattle.sheet_store.specs.declared.Kept.{Kept}
 use Rattle.sheet_store.specs.declared.Store.{Store}
 use Rattle.sheet_store.specs.Store.{text_in, edition_of, slid, blank, some_long, overfull_of, edition_in, place_of}

@@ -3,4 +3,3 @@ pub mod Paper
 pub mod Laws
 pub mod Shelf
 pub mod Promises
-pub mod Nine

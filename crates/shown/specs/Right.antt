@@ -1,7 +1,7 @@
 -- What the tests find is what the check's rules say.
 use mathlib.Core.Logic.Iff
-use Rattle.std.specs.Prelude.{ℕ, suc, ◌+◌, ◌-◌, ◌≤◌, ◌<◌, ◌≡◌, refl, ◌↔◌, Bool, true, false, ◌&&◌, List, length, get_or, drop}
-use Rattle.std.proofs.Common.{ap, subst, ◌∙◌, arith, add-one, length-drop, get_or-drop}
+use Rattle.std.specs.Prelude.{ℕ, suc, ◌+◌, ◌-◌, ◌<◌, ◌≡◌, Bool, true, false, ◌&&◌, List, length, get_or, drop}
+use Rattle.std.proofs.Common.{subst, arith, add-one, length-drop, get_or-drop}
 use Rattle.std.proofs.Math.Bool.{So}
 use Rattle.std.proofs.Math.Dec.{leb}
 use Rattle.plant.specs.declared.Plant as plant
@@ -10,25 +10,24 @@ use Rattle.syntax.specs.declared.Rule.{Rule}
 use Rattle.syntax.specs.Value.{rule_of}
 use Rattle.meaning.specs.Bit.{bit}
 use Rattle.meaning.specs.Says.{Says, Kept}
-use Rattle.meaning.specs.Formula.{Formula, Holds}
-use Rattle.meaning.specs.Run.{Plant, FairLasso, Run, state_at, label_of, next_of, labels_along}
+use Rattle.meaning.specs.Formula.{Formula}
+use Rattle.meaning.specs.Run.{Plant, FairLasso, state_at, label_of, next_of}
 use Rattle.words.specs.Truth.{says_itself, says_and, says_not}
 use Rattle.words.specs.Tests.{lt_says, le_says}
 use Rattle.words.specs.Folds.{any_says, all_says}
 use Rattle.event_log.specs.declared.Event.{Event}
 use Rattle.labels.specs.Labels.{agrees_says}
 use Rattle.around.specs.Around.{place}
-use Rattle.around.specs.Places.{place_below, place_self, place_on}
-use Rattle.around.specs.Along.{lasso_of, labels_of, state_at_lem, run_means}
-use Rattle.around.specs.Fill.{around_of}
+use Rattle.around.proofs.Places.{place_below, place_self, place_on}
+use Rattle.around.specs.Along.{lasso_of}
+use Rattle.around.proofs.AlongLaws.{state_at_lem}
 use Rattle.shown.specs.declared.Found.{Found}
 use Rattle.shown.specs.Shown.{Starts, MovesOn, FairOn, AgreesAll, FirstFailing}
 use Rattle.shown.specs.Positions.{position_at}
-use Rattle.shown.specs.First.{first_says}
-use Rattle.shown.specs.Tests.{starts_of, move_at, moves_of, meets_of, fair_of, agree_at, agree_of, kept_of, first_of, checked_of}
+use Rattle.shown.specs.Tests.{starts_of, move_at, moves_of, meets_of, fair_of, agree_at, agree_of, kept_of}
 
 module _ (T : Plant) (run : List ℕ) (s : ℕ) where
-  abbrev n : ℕ
+  abbrev pub n : ℕ
   n = length run
 
   pub starts_say : Says (starts_of T.start T.states run) (Starts T run)
@@ -55,14 +54,10 @@ module _ (T : Plant) (run : List ℕ) (s : ℕ) where
         all_says (agree_at T.label run s event) _
         (λ i. rw (state_at_lem run s loops (position_at event i)) (agrees_says (event i).see (event i).val (label_of T (get_or run (place s n (position_at event i)) 0)))) lines
 
-    -- the rules of moves and fairness are those of a run
-    first_state : state_at (lasso_of run s) 0 ≡ get_or run 0 0
-    first_state = state_at_lem run s loops 0 ∙ ap (λ (k : ℕ). get_or run k 0) (place_self s n loops 0 (omega arith))
-
     loop_length : length (drop s run) ≡ n - s
     loop_length = rw length-drop
 
-    run_walks : MovesOn T run s → FairOn T run s → FairLasso T (lasso_of run s)
+    pub run_walks : MovesOn T run s → FairOn T run s → FairLasso T (lasso_of run s)
     run_walks m f = record {
       loops = rw loop_length (omega arith);
       within = λ i. rw (state_at_lem run s loops i) (m.1 (place s n i) (place_below s n loops i)).0;
@@ -73,7 +68,7 @@ module _ (T : Plant) (run : List ℕ) (s : ℕ) where
           (i - s, rw loop_length (omega arith), rw (get_or-drop, e) met);
     }
 
-    walk_moves : FairLasso T (lasso_of run s) → MovesOn T run s
+    pub walk_moves : FairLasso T (lasso_of run s) → MovesOn T run s
     walk_moves w = (
       loops,
       λ i l.
@@ -84,50 +79,17 @@ module _ (T : Plant) (run : List ℕ) (s : ℕ) where
           ),
     )
 
-    walk_fair : FairLasso T (lasso_of run s) → FairOn T run s
+    pub walk_fair : FairLasso T (lasso_of run s) → FairOn T run s
     walk_fair w j l =
         let (i, h, met) = w.fair j l in
         let k : i < n - s = rw loop_length at h in
         (s + i, omega arith, (omega arith, rw get_or-drop at met))
-
-  -- the first three are those of a run
-  pub run_is : (Starts T run × MovesOn T run s × FairOn T run s) ↔ Run T (lasso_of run s)
-  run_is = (
-    λ (st, m, f). record { walk = run_walks m.0 m f; starts = rw (first_state m.0) st.2 },
-    λ r.
-        let loops : s < n = omega (arith, loop_some r) in (
-          (omega arith, subst (λ (k : ℕ). k < T.states) (first_state loops) (r.walk.within 0), rw (first_state loops) at r.starts),
-          walk_moves loops r.walk,
-          walk_fair loops r.walk,
-        ),
-  )
-    where
-      loop_some : Run T (lasso_of run s) → 0 < n - s
-      loop_some r = rw length-drop at r.walk.loops
 
 -- the value asked
 pub kept_says : (b v : Bool) {A : Type 0} → Says v A → Says (kept_of b v) (Kept b A)
 kept_says true v h = h
 kept_says false v h = says_not h
 
-pub judged : (T : Plant) (f : Formula) (b : Bool) (event : ℕ → Event) (lines mark : ℕ) (run : List ℕ) (s : ℕ) (v : Bool)
-    → (s < length run → Says v (Holds (labels_along T (lasso_of run s)) f mark))
-    → FirstFailing T f b event lines mark run s
-    (first_of (starts_of T.start T.states run) (moves_of T.next T.states run s) (fair_of T.fair run s) (agree_of T.label run s event lines) (kept_of b v))
-judged T f b event lines mark run s v h =
-    first_says _ _ _ _ _ (starts_say T run s) (moves_say T run s) (fair_say T run s) (λ m. agree_say T run s m.0 event lines) (λ m. kept_says b v (h m.0))
-
 -- of a rule's value
 pub record Means (p : plant.Plant) (fair label next : List ℕ) (rule : Rule) (event : ℕ → Event) (lines mark : ℕ) (keeps : Bool) (run : List ℕ) (s : ℕ) (r : Found) : Type 0 where
   pub says : (f : Formula) → rule ≡ rule_of f → FirstFailing (plant_of p fair label next) f keeps event lines mark run s r
-
-pub checked_means :
-    (p : plant.Plant) (fair label next : List ℕ) (rule : Rule) (event : ℕ → Event) (lines mark : ℕ) (keeps : Bool) (run : List ℕ) (s : ℕ) (r : Found)
-    → (rule.len ≤ 32) × (length run ≤ 4096) → r ≡ checked_of p fair label next rule event lines mark keeps run s → Means p fair label next rule event lines mark keeps run s r
-unfolding checked_of
-checked_means p fair label next rule event lines mark keeps run s r (short, few) e = record {
-  says = λ f h.
-      rw e
-      (judged (plant_of p fair label next) f keeps event lines mark run s (around_of rule (labels_of label run) s mark)
-      (λ loops. (run_means rule label run s mark (around_of rule (labels_of label run) s mark) (short, loops, few) refl).says (plant_of p fair label next) f refl h));
-}

@@ -100,7 +100,7 @@ fn restarted(
 }
 
 // The cases are those of `advance::advance`. Before the first event nothing is missing.
-#[tactic(auto, using(sides::specs::SidesRight::came_new, sides::specs::SidesRight::came_next, sides::specs::SidesRight::came_first))]
+#[tactic(auto, using(sides::proofs::SidesRight::came_new, sides::proofs::SidesRight::came_next, sides::proofs::SidesRight::came_first))]
 fn came(
     label: &[u16],
     next: &[u64],

@@ -1,4 +1,3 @@
 pub mod Words
 pub mod Laws
 pub mod Back
-pub mod Promises

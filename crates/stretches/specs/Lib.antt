@@ -1,4 +1,3 @@
 pub mod Sheet
 pub mod Afresh
 pub mod Example
-pub mod Laws

@@ -11,8 +11,7 @@ use Rattle.text.specs.Slot.{Slot, exactly, admits, matched}
 use Rattle.text.specs.Matched.{first_admits}
 use Rattle.text.specs.Form.{Form}
 use Rattle.text.specs.Cases.{below_or_beyond}
-use Rattle.text.specs.Place.{Fills, Whole, RefusedAt, refused_at_lem, of_form_fills}
-use Rattle.text.specs.Promises.{fit_of, place_is}
+use Rattle.text.specs.Place.{Fills, Whole}
 
 -- the values that `first` has are of F, and their texts begin with the byte b; the others are of G
 unfoldable pub choice : {A : Type 0} → ℕ → (A → Bool) → Form A → Form A → Form A
@@ -103,26 +102,3 @@ module _ {A : Type 0} {b : ℕ} {first : A → Bool} {F G : Form A} (whole : Who
       by_byte : (y : Bool) → eqb (get_or s 0 0) b ≡ y → first (cond y (F.guess s) (G.guess s)) ≡ y
       by_byte true e = apart.one s (eqb-true (get_or s 0 0) b e)
       by_byte false e = apart.other s (eqb-false (get_or s 0 0) b e)
-
-  -- what begins with b is read and refused as F does it, and anything else as G does
-  pub slots_first : (s : List ℕ) → get_or s 0 0 ≡ b → (choice b first F G).slots ((choice b first F G).guess s) ≡ F.slots (F.guess s)
-  unfolding choice
-  slots_first s e = rw (eq-eqb (get_or s 0 0) b e, apart.one s e)
-
-  pub slots_other : (s : List ℕ) → (get_or s 0 0 ≡ b → ⊥) → (choice b first F G).slots ((choice b first F G).guess s) ≡ G.slots (G.guess s)
-  unfolding choice
-  slots_other s e = rw (ne_eqb (get_or s 0 0) b e, apart.other s e)
-
-  -- of two forms that a text is guessed to fit alike, one refuses it where the other does
-  refused_same :
-      {E : Form A} → Whole E → (s : List ℕ) (i : ℕ) → (choice b first F G).slots ((choice b first F G).guess s) ≡ E.slots (E.guess s) → RefusedAt E s i
-      → RefusedAt (choice b first F G) s i
-  refused_same {E} reads s i e r =
-      let p : fit_of (choice b first F G) s ≡ i = ap (matched s) e ∙ sym (place_is reads s i r) in
-      rw p at (refused_at_lem choice_whole s (λ f. r.not_of_form ((of_form_fills reads s).1 (rw e at f))))
-
-  pub refused_first : (s : List ℕ) (i : ℕ) → get_or s 0 0 ≡ b → RefusedAt F s i → RefusedAt (choice b first F G) s i
-  refused_first s i e r = refused_same whole s i (slots_first s e) r
-
-  pub refused_other : (s : List ℕ) (i : ℕ) → (get_or s 0 0 ≡ b → ⊥) → RefusedAt G s i → RefusedAt (choice b first F G) s i
-  refused_other s i e r = refused_same whole' s i (slots_other s e) r

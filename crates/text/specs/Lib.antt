@@ -15,4 +15,3 @@ pub mod Lines
 pub mod Promises
 pub mod LinesRead
 pub mod Choice
-pub mod LinesChoice

@@ -29,7 +29,7 @@ use Rattle.monitor.specs.Calls.{open_call}
 use Rattle.course.specs.declared.Went.{Went}
 use Rattle.course.specs.Laid.{laid_over, laid_length}
 use Rattle.course.specs.Course.{Course, verdict_bytes, left_bytes, Followed, Fitting}
-use Rattle.course.specs.CourseRight.{opened_fitting}
+use Rattle.course.proofs.CourseRight.{opened_fitting}
 use Rattle.course.specs.Lamps.{Counted}
 use Rattle.transcript.specs.Place.{placed_at}
 use Rattle.lamp_lines.specs.Lines.{byte_lines, lines_text, lines_are}

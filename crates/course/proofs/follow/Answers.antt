@@ -1,7 +1,7 @@
 -- `follow`: by what the rule says, worked out once. Assumes nothing.
 use Rattle.std.proofs.Common.{rules}
 use Rattle.ways.specs.Ways.{few_ways}
-use Rattle.course.specs.CourseRight.{fitting_ready, followed}
+use Rattle.course.proofs.CourseRight.{fitting_ready, followed}
 use Rattle.course.proofs.follow.Goals as goal
 
 pub ways_of-ways-requires : goal.ways_of-ways-requires

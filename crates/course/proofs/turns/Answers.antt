@@ -1,7 +1,7 @@
 -- `turns`: line after line as the definition goes (`Gone`). Assumes nothing.
 use Rattle.std.proofs.Common.{ℕ, ◌/◌, zero-le, sym, ap, ◌∙◌, div-le_self, arith, length}
 use Rattle.course.specs.Lent.{taken_lent}
-use Rattle.course.specs.Turns.{starts, goes_on, stops, accepted_number}
+use Rattle.course.proofs.TurnsLaws.{starts, goes_on, stops, accepted_number}
 use Rattle.std.proofs.lemmas.Grind.{common_steps}
 use Rattle.course.proofs.turns.Goals as goal
 

@@ -4,7 +4,7 @@ use Rattle.text.specs.Number.{width_of}
 use Rattle.event_log.specs.Read.{whole_lines}
 use Rattle.pairs.specs.declared.Pairs.{Pairs}
 use Rattle.sides.specs.declared.Monitor.{Monitor}
-use Rattle.course.specs.Turns.{Gone}
+use Rattle.course.proofs.TurnsLaws.{Gone}
 use Rattle.course.proofs.turns.Given as goal
 
 -- the monitor of its parts

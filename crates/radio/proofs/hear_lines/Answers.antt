@@ -2,8 +2,8 @@
 use Rattle.std.proofs.Common.{rules}
 use Rattle.ways.specs.Ways.{few_ways}
 use Rattle.text.specs.Number.{width_of}
-use Rattle.course.specs.CourseRight.{fitting_ready}
-use Rattle.radio.specs.Ending.{clean_ear, clean_clean, clean_fit, listened}
+use Rattle.course.proofs.CourseRight.{fitting_ready}
+use Rattle.radio.proofs.Ending.{clean_ear, clean_clean, clean_fit, listened}
 use Rattle.radio.proofs.hear_lines.Goals as goal
 
 pub ways_of-ways-requires : goal.ways_of-ways-requires

@@ -2,8 +2,8 @@
 use Rattle.std.proofs.Common.{arith}
 use Rattle.text.specs.Number.{width_of, width_between}
 use Rattle.monitor.specs.Calls.{step_call}
-use Rattle.radio.specs.Ending.{clean_fit}
-use Rattle.radio.specs.Quiet.{quiet_none, quiet_piece}
+use Rattle.radio.proofs.Ending.{clean_fit}
+use Rattle.radio.proofs.Quiet.{quiet_none, quiet_piece}
 use Rattle.radio.proofs.listen.Goals as goal
 
 pub returns-then-scrap-eq0 : goal.returns-then-scrap-eq0

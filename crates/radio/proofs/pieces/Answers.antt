@@ -1,6 +1,6 @@
 -- `pieces`: piece after piece as the definition goes (`Going`). Assumes nothing.
 use Rattle.std.proofs.Common.{ℕ, ◌-◌, ◌≡◌, List, arith, length, take, drop, length-drop, take_all}
-use Rattle.radio.specs.Turning.{starts, at_within, at_more, line_small, goes_on}
+use Rattle.radio.proofs.Turning.{starts, at_within, at_more, line_small, goes_on}
 use Rattle.radio.proofs.pieces.Goals as goal
 
 -- the rest of a scrap as a call is lent it

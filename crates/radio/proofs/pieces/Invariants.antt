@@ -2,7 +2,7 @@
 use Rattle.std.proofs.Common.{◌-◌, length}
 use Rattle.text.specs.Number.{width_of, width_between}
 use Rattle.course.specs.Course.{turn}
-use Rattle.radio.specs.Turning.{Going}
+use Rattle.radio.proofs.Turning.{Going}
 use Rattle.radio.proofs.pieces.Given as goal
 
 abbrev pub invariant-loop-at : goal.invariant-loop-at

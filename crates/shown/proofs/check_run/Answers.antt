@@ -1,7 +1,7 @@
 -- `check_run`: by the first test that fails; what it means is `checked_means`.
 use Rattle.node_value.specs.Turns.{passed, failed}
 use Rattle.shown.specs.Checked.{moves_loop, found_start, found_moves, found_fairness, found_agreement, found_value, found_correct}
-use Rattle.shown.specs.Right.{checked_means}
+use Rattle.shown.proofs.Right.{checked_means}
 use Rattle.std.proofs.Common.{arith}
 use Rattle.std.proofs.lemmas.Grind.{common_steps}
 use Rattle.shown.proofs.check_run.Goals as goal

@@ -1,5 +1,5 @@
 -- `restarted`: the image of both sides, split. Assumes nothing.
-use Rattle.sides.specs.SidesRight.{restarted_whole}
+use Rattle.sides.proofs.SidesRight.{restarted_whole}
 use Rattle.sides.proofs.restarted.Goals as goal
 
 pub returns : goal.returns

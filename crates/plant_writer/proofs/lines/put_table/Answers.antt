@@ -1,6 +1,7 @@
 -- `plant_writer::lines::put_table` meets its contract: head, fairness sets and states, one behind the other. Assumes nothing.
 use Rattle.std.proofs.Common.{◌++◌, sym, ◌∙◌, arith}
-use Rattle.plant_writer.specs.Pieces.{puts_slots, rest_fits, head_of, fair_of, rows_of, all_fit, put_whole}
+use Rattle.plant_writer.specs.Pieces.{puts_slots, rest_fits, head_of, fair_of, rows_of}
+use Rattle.plant_writer.proofs.Pieces.{all_fit, put_whole}
 use Rattle.plant_writer.proofs.lines.put_table.Goals as goal
 
 pub put_rows-requires : goal.put_rows-requires

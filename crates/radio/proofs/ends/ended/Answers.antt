@@ -1,7 +1,7 @@
 -- `ended`: its event is refused, or taken. Assumes nothing.
 use Rattle.std.proofs.Common.{sym, ◌∙◌}
-use Rattle.course.specs.Turns.{accepted_number}
-use Rattle.radio.specs.Ending.{end_refused, end_taken}
+use Rattle.course.proofs.TurnsLaws.{accepted_number}
+use Rattle.radio.proofs.Ending.{end_refused, end_taken}
 use Rattle.radio.proofs.ends.ended.Goals as goal
 
 pub moved-now-requires : goal.moved-now-requires

@@ -3,7 +3,7 @@ use Rattle.std.proofs.Common.{refl, ap, ◌∙◌, ◌++◌, arith, length, take
 use Rattle.text.specs.Number.{width_of, width_between}
 use Rattle.radio.specs.Kept.{stopped_radio}
 use Rattle.radio.specs.Laws.{padded_long}
-use Rattle.radio.specs.Turning.{Cut, size_room, cut_some, cut_within, cut_end, cut_few, cut_long, cut_size, cut_line, piece_stops, piece_keeps}
+use Rattle.radio.proofs.Turning.{Cut, size_room, cut_some, cut_within, cut_end, cut_few, cut_long, cut_size, cut_line, piece_stops, piece_keeps}
 use Rattle.radio.proofs.piece.open_piece.Goals as goal
 
 pub overflow_sub-size : goal.overflow_sub-size

@@ -15,8 +15,8 @@ use Rattle.node_value.specs.Unfold.{guess_of}
 use Rattle.node_value.specs.Back.{back}
 use Rattle.node_value.specs.Rows.{Truths, hands_on, row_of, Tells, Rows}
 use Rattle.around.specs.Around.{place}
-use Rattle.around.specs.Places.{place_below}
-use Rattle.around.specs.Round.{Step, round, hands, until_step, release_step, hands_next, hands_unfold, until_round, release_round}
+use Rattle.around.proofs.Places.{place_below}
+use Rattle.around.proofs.Round.{Step, round, hands, until_step, release_step, hands_next, hands_unfold, until_round, release_round}
 
 -- the truth of a node at each position: first once round the loop, then over all positions
 abbrev pub row : (ℕ → ℕ) → ℕ → ℕ → Op → Truths → Truths → Truths

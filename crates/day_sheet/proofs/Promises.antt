@@ -44,7 +44,7 @@ use Rattle.watching.specs.Watching.{Held, Taken, TakenFrom, AllTaken, brought, b
 use Rattle.stretches.specs.declared.DaySheet.{DaySheet}
 use Rattle.stretches.specs.Sheet.{sheet_of, empty_sheet, noted_by}
 use Rattle.stretches.specs.Afresh.{Shown, stretches_from, lines_of}
-use Rattle.stretches.specs.Laws.{Low, lines_opened, same_lines, noted_first, noted_more}
+use Rattle.stretches.proofs.Laws.{Low, lines_opened, same_lines, noted_first, noted_more}
 use Rattle.day_sheet.specs.declared.Noted.{Noted}
 use Rattle.day_sheet.specs.Afresh.{Numbered, count_from, numbered_by, numbered_from, shown_at, shown_from, shown_of, afresh}
 use Rattle.day_sheet.specs.Calls.{Day, opens_of, note_step, sheet_after, is_full, refused_with, note_by, overfull_by, noted_of}

@@ -8,7 +8,8 @@ use Rattle.answers.specs.declared.Kind.TheVariants.{NotHeld}
 use Rattle.sheet_store.specs.declared.Store.{Store}
 use Rattle.sheet_store.specs.Store.{edition_of, added, keeps, copied}
 use Rattle.sheet_store.specs.Shelf.{Ascends, none, more, newest_from, ascends_more, ascends_drop, Shelf, Lacks, none_lacks, more_lacks, shelf_copies, shelf_lacks, copy_of}
-use Rattle.sheet_store.specs.Promises.{shelved, adding, takes, shelved_if, shelving, shelf_on}
+use Rattle.sheet_store.specs.Promises.{shelved, adding, takes, shelved_if, shelving}
+use Rattle.sheet_store.proofs.Promises.{shelf_on}
 
 -- how many of the texts are taken that are handed in one after the other
 unfoldable pub taken_of : List (List ℕ) → List (List ℕ) → ℕ

@@ -30,7 +30,8 @@ use Rattle.radio.specs.declared.Radio.{Radio}
 use Rattle.radio.specs.declared.piece.Pieced.{Pieced}
 use Rattle.radio.specs.declared.ends.Turned.{Turned}
 use Rattle.radio.specs.Radio.{Heard, good_of, stopped, kept, ended, lengthened, hear, hear_all}
-use Rattle.radio.specs.Pieces.{first_same, Kept, pieced, hears_no_more, pieces}
+use Rattle.radio.specs.Pieces.{first_same, Kept, pieced}
+use Rattle.radio.proofs.PiecesLaws.{hears_no_more, pieces}
 use Rattle.radio.specs.Kept.{padded, part_of, ear_of, radio_of, heard_by, Fit, stopped_radio, lesser_of, joined_piece, took_of, open_piece, piece_of, lit_of, answered_turn, ended_turn, turned_of, noted_at, Listened}
 use Rattle.radio.specs.Laws.{padded_long, padded_back, padded_none}
 

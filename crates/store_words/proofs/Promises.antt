@@ -15,7 +15,8 @@ use Rattle.sheet_store.specs.declared.Added.{Added}
 use Rattle.sheet_store.specs.Store.{blank, kept_of, dropped, pushed, overfull_of, newest_of, held_as, added_by, added_for, added}
 use Rattle.sheet_store.specs.Laws.{scan_short}
 use Rattle.sheet_store.specs.Shelf.{empty_store, Shelf}
-use Rattle.sheet_store.specs.Promises.{adding, shelving, always_shelf}
+use Rattle.sheet_store.specs.Promises.{adding, shelving}
+use Rattle.sheet_store.proofs.Promises.{always_shelf}
 use Rattle.store_words.specs.Words.{byte_of, byte_in, kept_in, store_in, words_of, next_by, next_words}
 use Rattle.store_words.specs.Back.{Typed, store_back, zeros_empty}
 

@@ -17,8 +17,8 @@ use Rattle.radio.specs.declared.Radio.{Radio}
 use Rattle.radio.specs.declared.piece.Pieced.{Pieced}
 use Rattle.radio.specs.Radio.{Ear, hear_all}
 use Rattle.radio.specs.Kept.{ear_of, radio_of, heard_by, Fit, piece_of, turned_of, Listened}
-use Rattle.radio.specs.Turning.{Turning, turning}
-use Rattle.radio.specs.Ending.{clean_ear, clean_clean, clean_fit}
+use Rattle.radio.proofs.Turning.{Turning, turning}
+use Rattle.radio.proofs.Ending.{clean_ear, clean_clean, clean_fit}
 
 neither : (a b : Bool) → (a || b) ≡ false → (a ≡ false) × (b ≡ false)
 neither false false e = (refl, refl)

@@ -12,8 +12,8 @@ use Rattle.shape.specs.Ops.{op_at}
 use Rattle.node_value.specs.Unfold.{value_at, carry_at}
 use Rattle.node_value.specs.Rows.{Grown, rule_told}
 use Rattle.around.specs.Around.{place, around, Means}
-use Rattle.around.specs.Places.{place_below}
-use Rattle.around.specs.Rows.{row, rows_right}
+use Rattle.around.proofs.Places.{place_below}
+use Rattle.around.proofs.Rows.{row, rows_right}
 use Rattle.around.specs.Fill.{handed_from, round_of, stacks_after, around_of}
 use Rattle.around.specs.Turns.{filled_at, length_stacks}
 

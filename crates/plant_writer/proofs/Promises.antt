@@ -24,7 +24,7 @@ use Rattle.plant_writer.specs.declared.Length.{Length}
 use Rattle.plant_writer.specs.declared.Wrote.{Wrote}
 use Rattle.plant_writer.specs.declared.Wrote.TheVariants.{Text, Refused}
 use Rattle.plant_writer.specs.Longest.{at_most_2477}
-use Rattle.plant_writer.specs.Lower.{lower, table_lowered}
+use Rattle.plant_writer.proofs.Lower.{lower, table_lowered}
 use Rattle.plant_writer.specs.Writing.{write_answer, write_buffer, write_outcome, told_by, left_by, fitting}
 
 -- which of the two an answer is, and the bytes that it tells

@@ -12,7 +12,7 @@ use Rattle.words.specs.Truth.{true_or_false, says_itself, says_or, and_says}
 use Rattle.theory.specs.Until.{Until, Release, Again, until_says, release_says}
 use Rattle.node_value.specs.Back.{back}
 use Rattle.around.specs.Around.{place}
-use Rattle.around.specs.Places.{place_below, place_next, place_round, place_again}
+use Rattle.around.proofs.Places.{place_below, place_next, place_round, place_again}
 
 abbrev pub Step : Type 0
 Step = ℕ → Bool → Bool

@@ -26,7 +26,7 @@ use Rattle.sides.specs.declared.Monitor.{Monitor}
 use Rattle.sides.specs.Held.{model_of, monitor_of}
 use Rattle.event_numbers.specs.Numbers.{event_outcome}
 use Rattle.sides.specs.Sides.{taken_in}
-use Rattle.sides.specs.SidesRight.{taken_right}
+use Rattle.sides.proofs.SidesRight.{taken_right}
 use Rattle.monitor.specs.declared.Watched.{Watched}
 use Rattle.monitor.specs.Calls.{watched, open_call, step_call}
 use Rattle.watching.specs.Watching.{T, f, Held, brought, live, live_fits, checks_pass, stays_held, open_held, full}

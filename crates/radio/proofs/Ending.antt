@@ -30,7 +30,7 @@ use Rattle.monitor.specs.declared.Watched.{Watched}
 use Rattle.monitor.specs.Calls.{step_call}
 use Rattle.watching.specs.Watching.{T, f, Held, stays_held}
 use Rattle.course.specs.Course.{turn_of, turn, Fitting}
-use Rattle.course.specs.CourseRight.{turn_is}
+use Rattle.course.proofs.CourseRight.{turn_is}
 use Rattle.radio.specs.declared.Form.{Form}
 use Rattle.radio.specs.declared.Lit.TheVariants.{Dark, Verdict}
 use Rattle.radio.specs.declared.Radio.{Radio}
@@ -39,7 +39,7 @@ use Rattle.radio.specs.declared.ends.Turned.{Turned}
 use Rattle.radio.specs.Radio.{Ear, Heard, form_of, begins, stopped, kept, answered, byte_heard, hear, hear_all}
 use Rattle.radio.specs.Kept.{padded, part_of, ear_of, radio_of, heard_by, Fit, stopped_radio, ways_by, turn_by, answered_turn, ended_turn, Listened}
 use Rattle.radio.specs.Laws.{padded_long, padded_back}
-use Rattle.radio.specs.Turning.{part_long}
+use Rattle.radio.proofs.Turning.{part_long}
 
 -- ---- the event of a whole line
 

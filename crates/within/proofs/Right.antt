@@ -16,7 +16,7 @@ use Rattle.node_value.specs.Back.{back}
 use Rattle.node_value.specs.Rows.{hands_on, Grown, rule_told}
 use Rattle.within.specs.Within.{HoldsWithin}
 use Rattle.within.specs.Turn.{stack_after, ahead_from, stack_from}
-use Rattle.within.specs.Rows.{row, rows_right}
+use Rattle.within.proofs.Rows.{row, rows_right}
 
 module _ (rule : Rule) (label : ℕ → ℕ) (n : ℕ) where
   -- the stack at event i behind p nodes

@@ -13,8 +13,8 @@ use Rattle.syntax.specs.Value.{rule_of}
 use Rattle.rule_text.specs.declared.RuleRead.{RuleRead}
 use Rattle.rule_text.specs.Reading.{no_rule, accepted, text_read, of_table, rule_read}
 use Rattle.rule_text.specs.Paper.{Beside, Takes, Because, counts, bits, too_long, no_text, unknown, too_large, too_many}
-use Rattle.rule_text.specs.Judged.{refusal_none, reads_long, reads_none, reads_unknown, reads_large, reads_many, reads_rule, Judged}
-use Rattle.rule_text.specs.Judged as judged
+use Rattle.rule_text.proofs.Judged.{refusal_none, reads_long, reads_none, reads_unknown, reads_large, reads_many, reads_rule, Judged}
+use Rattle.rule_text.proofs.Judged as judged
 
 module _ (p : Plant) (fair label next s : List ℕ) where
   abbrev answer : RuleRead

@@ -24,7 +24,7 @@ use Rattle.event_numbers.specs.Numbers.{in_turn, in_turn_says, event_outcome}
 use Rattle.sides.specs.Sides.{taken_in}
 use Rattle.course.specs.Laid.{laid, laid_more, laid_length}
 use Rattle.course.specs.Course.{Course, takes, number_in, course_to, turn_of, turn, verdict_bytes, left_bytes, Followed}
-use Rattle.course.specs.CourseRight.{stays}
+use Rattle.course.proofs.CourseRight.{stays}
 
 -- a number that is accepted fits 32 bits
 pub accepted_number : (e : Event) (props : ℕ) (seen : Bool) (expected : ℕ) → event_outcome e props seen expected ≡ Accepted → numbers.number_of e.num expected < 2 ^ 32

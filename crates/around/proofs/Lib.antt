@@ -1,0 +1,5 @@
+pub mod Places
+pub mod Round
+pub mod Rows
+pub mod Right
+pub mod AlongLaws

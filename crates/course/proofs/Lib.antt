@@ -1,0 +1,2 @@
+pub mod CourseRight
+pub mod TurnsLaws

@@ -1,0 +1,4 @@
+pub mod PiecesLaws
+pub mod Turning
+pub mod Ending
+pub mod Quiet

@@ -1,0 +1,4 @@
+pub mod Sense
+pub mod SeenLaws
+pub mod Rows
+pub mod Right
