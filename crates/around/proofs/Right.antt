@@ -10,7 +10,7 @@ use Rattle.syntax.specs.declared.Rule.{Rule}
 use Rattle.syntax.specs.Value.{rule_of}
 use Rattle.shape.specs.Ops.{op_at}
 use Rattle.node_value.specs.Unfold.{value_at, carry_at}
-use Rattle.node_value.specs.Rows.{Grown, rule_told}
+use Rattle.node_value.proofs.Rows.{Grown, rule_told}
 use Rattle.around.specs.Around.{place, around, Means}
 use Rattle.around.proofs.Places.{place_below}
 use Rattle.around.proofs.Rows.{row, rows_right}

@@ -13,7 +13,7 @@ use Rattle.syntax.specs.Grammar.{Level, Side, Atom, is_false, is_true, is_prop, 
 use Rattle.theory.specs.Until.{finally_until, globally_release}
 use Rattle.node_value.specs.Unfold.{guess_of}
 use Rattle.node_value.specs.Back.{back}
-use Rattle.node_value.specs.Rows.{Truths, hands_on, row_of, Tells, Rows}
+use Rattle.node_value.proofs.Rows.{Truths, hands_on, row_of, Tells, Rows}
 use Rattle.around.specs.Around.{place}
 use Rattle.around.proofs.Places.{place_below}
 use Rattle.around.proofs.Round.{Step, round, hands, until_step, release_step, hands_next, hands_unfold, until_round, release_round}

@@ -24,7 +24,7 @@ use Rattle.syntax.proofs.Values.{full_value}
 use Rattle.rule_text.specs.Reading.{rule_read}
 use Rattle.rule_value.specs.Valid.{known}
 use Rattle.rule_value.specs.Values.{below_nodes}
-use Rattle.rule.specs.Promises as rules
+use Rattle.rule.proofs.Promises as rules
 use Rattle.live.specs.Prepare.{prepared_of}
 use Rattle.live.specs.Promises.{prepare_accepted}
 use Rattle.monitor.specs.Calls.{open_call}

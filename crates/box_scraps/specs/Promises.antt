@@ -16,7 +16,7 @@ use Rattle.checks.specs.Input.{input_accepted}
 use Rattle.sides.specs.declared.Monitor.{Monitor}
 use Rattle.monitor.specs.Calls.{step_call}
 use Rattle.opened.specs.declared.Opened.{Opened}
-use Rattle.opened.specs.Fits.{opened_full}
+use Rattle.opened.proofs.Fits.{opened_full}
 use Rattle.opened.specs.Opened.{fair_in, label_in, next_in, opened_of}
 use Rattle.front_door.specs.FromLog.{behind_rule}
 use Rattle.radio.specs.declared.Radio.{Radio}

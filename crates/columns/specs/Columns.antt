@@ -1,12 +1,10 @@
 -- THE COLUMNS OF A FIXED MACHINE (02, g): the legal events, by see first, within one see by val, and of each the one without restart first. What must be believed of columns is `columns_of`.
-use Rattle.std.specs.Prelude.{ℕ, zero, suc, ◌/◌, ◌%◌, ◌^◌, ◌≤◌, ◌<◌, ◌≡◌, refl, Bool, true, false, cond, List, [], ◌∷◌, ◌++◌, eqb, length, get_or}
-use Rattle.std.proofs.Common.{ap, ◌∙◌, arith}
+use Rattle.std.specs.Prelude.{ℕ, zero, suc, ◌/◌, ◌%◌, ◌^◌, ◌≤◌, ◌≡◌, refl, Bool, true, false, cond, List, [], ◌∷◌, ◌++◌, eqb, get_or}
+use Rattle.std.proofs.Common.{arith}
 use Rattle.words.specs.Below.{list_below}
-use Rattle.words.specs.Lists.{at_list, length_list}
 use Rattle.event_log.specs.declared.Num.TheVariants.{Expected}
 use Rattle.event_log.specs.declared.Event.{Event}
 use Rattle.event_log.specs.Legal.{legal_of}
-use Rattle.event_log.specs.Log.{nothing}
 
 -- an event with the number that is expected
 abbrev pub event : ℕ → ℕ → Bool → Event
@@ -52,13 +50,6 @@ columns_are (suc zero) a b = refl
 columns_are (suc (suc zero)) a b = refl
 columns_are (suc (suc (suc zero))) a b = refl
 columns_are (suc (suc (suc (suc p)))) a b = absurd (omega arith)
-
-module _ (props : ℕ) (some : 1 ≤ props) (few : props ≤ 3) where
-  pub columns_count : length (columns_of props) ≡ count_of props
-  columns_count = ap length (columns_are props some few) ∙ length_list (count_of props) event_at
-
-  pub columns_at : (k : ℕ) → k < count_of props → get_or (columns_of props) k nothing ≡ event_at k
-  columns_at k l = ap (λ (es : List Event). get_or es k nothing) (columns_are props some few) ∙ at_list nothing (count_of props) event_at k l
 
 -- there are at most 54, and some
 pub few_columns : (props : ℕ) → (1 ≤ count_of props) × (count_of props ≤ 54)

@@ -28,7 +28,8 @@ use Rattle.course.specs.Lamps.{Counted, counted}
 use Rattle.opened.specs.declared.Opened.{Opened}
 use Rattle.opened.specs.Lent.{Lent}
 use Rattle.opened.specs.Opened.{fair_in, label_in, next_in, opened_of}
-use Rattle.opened.specs.Fits.{Fits, opened_lent, opened_fits, opened_short}
+use Rattle.opened.specs.Fits.{Fits}
+use Rattle.opened.proofs.Fits.{opened_lent, opened_fits, opened_short}
 use Rattle.controller.specs.declared.LogEnd.{LogEnd}
 use Rattle.controller.specs.declared.LogAnswer.{LogAnswer}
 use Rattle.controller.specs.Whole.{Says, course_from, log_checked, end_at, heard_in, heard_from, heard_of, end_in, end_from, end_of}

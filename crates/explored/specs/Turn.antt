@@ -10,7 +10,8 @@ use Rattle.words.specs.Lists.{list_of, list_at}
 use Rattle.words.specs.Tests.{eq_says}
 use Rattle.ways.specs.declared.Ways.{Ways}
 use Rattle.machines.specs.First.{First, first_is}
-use Rattle.machines.specs.Explored.{MoreThan, exploring_start, exploring_old, exploring_new, exploring_more}
+use Rattle.machines.specs.Explored.{MoreThan, exploring_start, exploring_old, exploring_more}
+use Rattle.machines.proofs.Explored.{exploring_new}
 use Rattle.explored.specs.Blocks.{block_at, stored, block_here, block_other, block_before, cells_behind, cell_stored}
 use Rattle.explored.specs.States.{block_after, step_length, word_agrees, same_block, Found}
 

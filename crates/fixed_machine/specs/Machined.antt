@@ -34,7 +34,8 @@ use Rattle.event_log.specs.Legal.{event_of}
 use Rattle.sides.specs.Held.{model_of, monitor_of, lamp_in}
 use Rattle.sides.specs.Sides.{opened_by, advanced_in}
 use Rattle.sides.proofs.SidesRight.{opened_right, advanced_right}
-use Rattle.columns.specs.Columns.{columns_of, event_at, count_of, columns_count, columns_at}
+use Rattle.columns.specs.Columns.{columns_of, event_at, count_of}
+use Rattle.columns.proofs.Columns.{columns_count, columns_at}
 use Rattle.machines.specs.Coded.{Coded, coded_made, coded_more, coded_back}
 use Rattle.explored.specs.States.{lamp_number, block_of, monitor_in, block_after, answer_of, block_back}
 use Rattle.fixed_machine.specs.declared.Made.{Made}

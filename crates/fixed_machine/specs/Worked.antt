@@ -19,6 +19,7 @@ use Rattle.machines.specs.Explored.{MoreThan, explored_most}
 use Rattle.machines.specs.Grown.{grown_proper}
 use Rattle.machines.specs.Joined.{joined, joined_fewer}
 use Rattle.machines.specs.Made as machines
+use Rattle.machines.proofs.Made as machines_laws
 use Rattle.joined.specs.Written.{written, written_at}
 use Rattle.explored.specs.Blocks.{block_at}
 use Rattle.explored.specs.States.{block_of, block_after, answer_of, Found, Answer, many, few}
@@ -82,7 +83,7 @@ module _ {label next : List ℕ} {w : Ways} {live opening : List ℕ} {c : ℕ} 
   -- and joined they are the fixed one
   pub worked : n ≤ 256 → {old new : List ℕ} {r : Made} → Laid c (joined c (machine_in room n c)) old new r → Worked c (block_after label next w live) answer_of opening old new r
   worked l laid = made (joined c (machine_in room n c)) (explored_most found.exploring 256 l)
-      (machines.joined_made found.exploring answer_of (written n (λ r. answer_of (block_at 130 room r)) (replicate 256 0))
+      (machines_laws.joined_made found.exploring answer_of (written n (λ r. answer_of (block_at 130 room r)) (replicate 256 0))
       (λ r h. written_at n (λ r. answer_of (block_at 130 room r)) (replicate 256 0) r h (omega (arith, length-replicate {A = ℕ} 256 0)))) laid
 
 -- the lists that are lent hold the rows that were found

@@ -33,7 +33,7 @@ use Rattle.syntax.specs.declared.Rule.{Rule}
 use Rattle.syntax.specs.Value.{rule_of}
 use Rattle.rule_text.specs.declared.RuleRead.{RuleRead}
 use Rattle.rule_text.specs.Reading.{rule_read}
-use Rattle.rule.specs.Promises as rules
+use Rattle.rule.proofs.Promises as rules
 use Rattle.event_log.specs.declared.Event.{Event}
 use Rattle.event_log.specs.Line.{line_bytes}
 use Rattle.event_log.specs.Log.{gives}

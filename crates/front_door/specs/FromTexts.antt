@@ -36,7 +36,7 @@ use Rattle.rule_text.specs.declared.Found.TheVariants.{At, Nowhere}
 use Rattle.rule_text.specs.Reading.{no_rule, accepted, unknown_at, of_found, of_scan, of_table, rule_read}
 use Rattle.rule_value.specs.Valid.{RuleValue}
 use Rattle.rule_text.specs.Paper.{Beside}
-use Rattle.rule.specs.Promises as rules
+use Rattle.rule.proofs.Promises as rules
 use Rattle.event_log.specs.declared.Event.{Event}
 use Rattle.event_log.specs.Line.{line_bytes}
 use Rattle.event_log.specs.declared.LogRead.{LogRead}

@@ -24,7 +24,7 @@ use Rattle.answers.proofs.Promises.{one_answer}
 use Rattle.plant.specs.Text.{table_reads}
 use Rattle.plant.specs.Promises.{table_out, accepted_formed}
 use Rattle.syntax.specs.Grammar.{SaidBy}
-use Rattle.rule.specs.Promises.{one_tree}
+use Rattle.rule.proofs.Promises.{one_tree}
 use Rattle.event_log.specs.declared.Event.{Event}
 use Rattle.event_log.specs.Log.{log_whole}
 use Rattle.event_log.proofs.Promises.{log_out}

@@ -17,7 +17,8 @@ use Rattle.syntax.specs.declared.Rule.{Rule}
 use Rattle.syntax.specs.Value.{formula_of}
 use Rattle.event_log.specs.Legal.{legal_of}
 use Rattle.checks.specs.Checks.{input_outcome}
-use Rattle.columns.specs.Columns.{columns_of, columns_count, few_columns}
+use Rattle.columns.specs.Columns.{columns_of, few_columns}
+use Rattle.columns.proofs.Columns.{columns_count}
 use Rattle.machines.specs.Machine.{Machine}
 use Rattle.fixed_machine.specs.declared.Made.{Made}
 use Rattle.fixed_machine.specs.declared.Made.TheVariants as Mades

@@ -26,7 +26,8 @@ use Rattle.monitor.specs.declared.Watched.{Watched}
 use Rattle.monitor.proofs.Given.{legal_is}
 use Rattle.watching.specs.Filled.{filled}
 use Rattle.watching.specs.Watching.{after, TakenFrom, AllTaken, after_model}
-use Rattle.columns.specs.Columns.{columns_of, columns_count, columns_at}
+use Rattle.columns.specs.Columns.{columns_of}
+use Rattle.columns.proofs.Columns.{columns_count, columns_at}
 use Rattle.machines.specs.Machine.{Machine, run, Columns, none, more}
 use Rattle.machines.specs.Follow.{stepped}
 use Rattle.machines.specs.Made as machines

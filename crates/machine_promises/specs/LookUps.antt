@@ -1,6 +1,6 @@
 -- LOOK-UPS AND STEPPING AGREE: the events of an accepted log, looked up one after another in the bytes that `make_machine` wrote, show what the monitor shows.
 -- What must be believed of look-ups is `looked_through` and `lost_put_in`, with machine_lookup/specs/Lookup.
-use Prim.Native.Nat.{ℕ, zero, suc, ◌+◌, ◌*◌, ◌≤◌, ◌<◌}
+use Prim.Native.Nat.{ℕ, ◌+◌, ◌*◌, ◌≤◌, ◌<◌}
 use Rattle.std.specs.Prelude.{◌≡◌, Bool, true, false, leb, length, get_or, take, replicate}
 use Rattle.std.proofs.Math.Path.{refl, ap}
 use Rattle.std.proofs.Common.{sym, subst, ◌∙◌, arith, leb-true, get_or-take, length-take-le}
@@ -9,7 +9,6 @@ use mathlib.Core.List.{List, [], ◌∷◌, ◌++◌, map, foldl}
 use Rattle.std.proofs.Math.Decide.{dec_lt}
 use Rattle.meaning.specs.Formula.{Formula}
 use Rattle.meaning.specs.Run as run
-use Rattle.meaning.specs.Event as meaning
 use Rattle.model.specs.LiveSet.{live_set}
 use Rattle.model.specs.Monitor as model
 use Rattle.answers.specs.declared.Verdict.{Verdict}
@@ -30,11 +29,12 @@ use Rattle.event_log.specs.Legal.{legal_of, event_of}
 use Rattle.event_log.specs.Log.{nothing}
 use Rattle.checks.specs.Input.{Input}
 use Rattle.sides.specs.Held.{lamp_in}
-use Rattle.event_numbers.specs.Numbers.{number_of, missing_of, unseen}
+use Rattle.event_numbers.specs.Numbers.{number_of, missing_of}
 use Rattle.monitor.specs.declared.Watched.{Watched}
-use Rattle.watching.specs.Filled.{filled_from, filled}
+use Rattle.watching.specs.Filled.{filled}
 use Rattle.watching.specs.Watching.{after, AllTaken, after_model}
-use Rattle.columns.specs.Columns.{columns_of, count_of, columns_count}
+use Rattle.columns.specs.Columns.{columns_of, count_of}
+use Rattle.columns.proofs.Columns.{columns_count}
 use Rattle.machines.specs.Machine.{Machine, run, Columns}
 use Rattle.machines.specs.Alike.{run_inside, numbered_reached}
 use Rattle.machines.specs.Bytes.{table_byte}
@@ -153,7 +153,7 @@ module _ (p : Plant) (fair label next : List ℕ) (rule : Rule) (given : Input p
         ∙ walk gs rest (m.next r (column_for g)) (inside r l g ok)
 
     -- looked up are events that stand for what an accepted log brings
-    looks_as : (es gs : List Event) → AllTaken p fair label next rule es → AllLegal p.props gs → map event_of gs ≡ filled es
+    pub looks_as : (es gs : List Event) → AllTaken p fair label next rule es → AllLegal p.props gs → map event_of gs ≡ filled es
         → ShowsAs (after p fair label next rule es).answer (looked_through bytes p.props gs)
     unfolding model.run_of
     looks_as es gs taken ok brought = record {
@@ -166,36 +166,6 @@ module _ (p : Plant) (fair label next : List ℕ) (rule : Rule) (given : Input p
           ∙ word_shows (map column_for gs) (columns_in p fair label next rule given stands.three gs ok) (model.run_of T f (live_set T f) (filled es))
           (leads_there p fair label next rule given stands.three gs ok (model.opening T f (live_set T f)) ∙ ap (foldl (model.step_of T f (live_set T f)) (model.opening T f (live_set T f))) brought);
     }
-
-  -- ---- the lost ones put in
-
-  -- an event that sees nothing is legal
-  nothing_legal : (props : ℕ) → props ≤ 3 → So (legal_of nothing props)
-  unfolding legal_of
-  nothing_legal zero l = refl
-  nothing_legal (suc zero) l = refl
-  nothing_legal (suc (suc zero)) l = refl
-  nothing_legal (suc (suc (suc zero))) l = refl
-  nothing_legal (suc (suc (suc (suc n)))) l = absurd (omega arith)
-
-  put_legal : p.props ≤ 3 → (es : List Event) (seen : Bool) (expected : ℕ) → AllLegal p.props es → AllLegal p.props (put_in_from seen expected es)
-  put_legal three [] seen expected ok = tt
-  put_legal three (e ∷ es) seen expected (ok, rest) =
-      go (put_in_from true (number_of e.num expected + 1) es) (put_legal three es true (number_of e.num expected + 1) rest) (missing_of seen expected (number_of e.num expected))
-    where
-      go : (gs : List Event) → AllLegal p.props gs → (k : ℕ) → AllLegal p.props (replicate k nothing ++ e ∷ gs)
-      go gs behind zero = (ok, behind)
-      go gs behind (suc k) = (nothing_legal p.props three, go gs behind k)
-
-  -- they stand for what the log brings
-  put_brings : (es : List Event) (seen : Bool) (expected : ℕ) → map event_of (put_in_from seen expected es) ≡ filled_from seen expected es
-  put_brings [] seen expected = refl
-  put_brings (e ∷ es) seen expected =
-      go (put_in_from true (number_of e.num expected + 1) es) (put_brings es true (number_of e.num expected + 1)) (missing_of seen expected (number_of e.num expected))
-    where
-      go : (gs : List Event) {hs : List meaning.Event} → map event_of gs ≡ hs → (k : ℕ) → map event_of (replicate k nothing ++ e ∷ gs) ≡ (replicate k unseen ++ event_of e ∷ []) ++ hs
-      go gs behind zero = ap (λ (l : List meaning.Event). event_of e ∷ l) behind
-      go gs behind (suc k) = ap (λ (l : List meaning.Event). unseen ∷ l) (go gs behind k)
 
   -- ---- in what the call wrote
 
@@ -245,12 +215,6 @@ module _ (p : Plant) (fair label next : List ℕ) (rule : Rule) (given : Input p
     -- A LOOK-UP IS NEVER REFUSED there, from any row and with any legal event
     pub never_refused : (r : ℕ) → r < size.rows → (e : Event) → So (legal_of e p.props) → (s : Stand) × (looked_up (bytes_of size new) p.props r e ≡ Lookeds.Row s)
     never_refused r l e ok = let (m, stands, rows) = wrote in row_found stands r (rw rows l) e ok
-
-    -- LOOK-UPS ANSWER AS STEPPING DOES, on each log that is accepted, and so after each event of it; an event that is lost is looked up as one that sees nothing
-    pub look_ups_agree : (es : List Event) → AllTaken p fair label next rule es → ShowsAs (after p fair label next rule es).answer (looked_through (bytes_of size new) p.props (lost_put_in es))
-    look_ups_agree es taken =
-        let (m, stands, _) = wrote in
-        looks_as stands es (lost_put_in es) taken (put_legal stands.three es false 0 (taken_legal p fair label next rule given stands.three es false 0 taken)) (put_brings es false 0)
 
     -- where none is lost, the events are looked up as they are
     pub look_ups_plain : (es : List Event) → AllTaken p fair label next rule es → WithoutGaps es → ShowsAs (after p fair label next rule es).answer (looked_through (bytes_of size new) p.props es)

@@ -21,6 +21,7 @@ use Rattle.machines.specs.Bytes.{table_byte, bytes_equal}
 use Rattle.machines.specs.Explored.{MoreThan}
 use Rattle.machines.specs.Follow.{stepped}
 use Rattle.machines.specs.Made as machines
+use Rattle.machines.proofs.Made as machines_laws
 use Rattle.joined.specs.Written.{written, written_same}
 use Rattle.fixed_machine.specs.declared.Made.{Made}
 use Rattle.fixed_machine.specs.declared.Made.TheVariants as Mades
@@ -48,7 +49,7 @@ module _ (T : run.Plant) (f : Formula) (m : Machine) (made_for : MadeFor T f m) 
 
   -- and one of the same form is the same, row by row and cell by cell
   pub one_machine : (n : Machine) → MadeFor T f n → Equal c m n
-  one_machine n other = machines.made_unique made_for other
+  one_machine n other = machines_laws.made_unique made_for other
 
 -- ---- the call
 
@@ -67,7 +68,7 @@ worked_one : (T : run.Plant) (f : Formula) (old new new' : List ℕ) (r r' : Mad
 worked_one T f old new new' r r' (over a e s) (over b e' s') = (e ∙ sym e', s ∙ sym s')
 worked_one T f old new new' r r' (over a e s) (made n few m laid) = absurd (few a)
 worked_one T f old new new' r r' (made n few m laid) (over b e s) = absurd (few b)
-worked_one T f old new new' r r' (made n few m laid) (made n' few' m' laid') = laid_one (length (columns_of T.props)) n n' old new new' r r' (machines.made_unique m m') laid laid'
+worked_one T f old new new' r r' (made n few m laid) (made n' few' m' laid') = laid_one (length (columns_of T.props)) n n' old new new' r r' (machines_laws.made_unique m m') laid laid'
 
 module _ (p : Plant) (fair label next : List ℕ) (rule : Rule) (work old : List ℕ) where
   abbrev T : run.Plant

@@ -9,7 +9,7 @@ use Rattle.syntax.specs.declared.Rule.{Rule}
 use Rattle.opened.specs.declared.Opened.{Opened}
 use Rattle.opened.specs.Opened.{fair_in, label_in, next_in, opened_of}
 use Rattle.opened.specs.Lent.{Lent}
-use Rattle.opened.specs.Fits.{opened_lent}
+use Rattle.opened.proofs.Fits.{opened_lent}
 use Rattle.fixed_machine.specs.declared.Made.{Made}
 use Rattle.fixed_machine.specs.declared.Made.TheVariants as Mades
 use Rattle.fixed_machine.specs.Machined.{Machined}

@@ -1,7 +1,6 @@
 pub mod Machine
 pub mod Held
 pub mod Alike
-pub mod Unique
 pub mod Room
 pub mod Smallest
 pub mod First
@@ -14,6 +13,5 @@ pub mod Follow
 pub mod Grown
 pub mod Bytes
 pub mod Explored
-pub mod Agrees
 pub mod Made
 pub mod Coded

@@ -19,7 +19,7 @@ use Rattle.sides.specs.declared.Monitor.{Monitor}
 use Rattle.opened.specs.declared.Opened.{Opened}
 use Rattle.opened.specs.Lent.{Lent}
 use Rattle.opened.specs.Opened.{fair_in, label_in, next_in, opened_of}
-use Rattle.opened.specs.Fits.{opened_lent}
+use Rattle.opened.proofs.Fits.{opened_lent}
 use Rattle.stretches.specs.declared.DaySheet.{DaySheet}
 use Rattle.stretches.specs.Sheet.{empty_sheet}
 use Rattle.day_sheet.specs.declared.Noted.{Noted}

@@ -20,7 +20,7 @@ use Rattle.plant.specs.Promises.{accepted_formed}
 use Rattle.syntax.specs.Value.{rule_of}
 use Rattle.rule_text.specs.declared.RuleRead.{RuleRead}
 use Rattle.rule_text.specs.Reading.{rule_read}
-use Rattle.rule.specs.Promises as rules
+use Rattle.rule.proofs.Promises as rules
 use Rattle.event_log.specs.declared.Event.{Event}
 use Rattle.event_log.specs.declared.LogRead.{LogRead}
 use Rattle.event_log.specs.Line.{line_bytes}

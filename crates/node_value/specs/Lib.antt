@@ -2,5 +2,4 @@ pub mod Unfold
 pub mod Back
 pub mod Sides
 pub mod Stack
-pub mod Rows
 pub mod Turns

@@ -24,7 +24,7 @@ use Rattle.plant.specs.Promises.{lent_passes}
 use Rattle.syntax.specs.declared.Rule.{Rule}
 use Rattle.rule_text.specs.declared.RuleRead.{RuleRead}
 use Rattle.rule_text.specs.Reading.{rule_read}
-use Rattle.rule.specs.Promises.{accepted_exactly}
+use Rattle.rule.proofs.Promises.{accepted_exactly}
 use Rattle.event_log.specs.declared.Event.{Event}
 use Rattle.event_log.specs.declared.LogRead.{LogRead}
 use Rattle.event_log.specs.Read.{log_read, event_at}

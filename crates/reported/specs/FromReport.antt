@@ -21,7 +21,7 @@ use Rattle.plant.specs.Promises.{accepted_formed}
 use Rattle.syntax.specs.Value.{rule_of}
 use Rattle.rule_text.specs.declared.RuleRead.{RuleRead}
 use Rattle.rule_text.specs.Reading.{rule_read}
-use Rattle.rule.specs.Promises as rules
+use Rattle.rule.proofs.Promises as rules
 use Rattle.event_log.specs.declared.Event.{Event}
 use Rattle.event_log.specs.Log.{nothing}
 use Rattle.event_log.specs.Read.{bytes_in, event_at, whole_lines}

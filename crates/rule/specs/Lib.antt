@@ -1,4 +1,2 @@
 pub mod Printing
 pub mod OnPaper
-pub mod Prints
-pub mod Promises

@@ -19,7 +19,7 @@ use Rattle.course.specs.Course.{Course, course_of, verdict_bytes}
 use Rattle.course.specs.Lamps.{counted}
 use Rattle.opened.specs.declared.Opened.{Opened}
 use Rattle.opened.specs.Opened.{fair_in, label_in, next_in, opened_of}
-use Rattle.opened.specs.Fits.{opened_full, opened_fits}
+use Rattle.opened.proofs.Fits.{opened_full, opened_fits}
 use Rattle.controller.specs.declared.LogAnswer.{LogAnswer}
 use Rattle.controller.specs.Whole.{Heard, log_checked, end_at, heard_by, heard_in, heard_of}
 use Rattle.scraps.specs.Calls.{heard_answer}

@@ -32,7 +32,8 @@ use Rattle.course.specs.Course.{Course, verdict_bytes, left_bytes, Followed, Fit
 use Rattle.course.proofs.CourseRight.{opened_fitting}
 use Rattle.course.specs.Lamps.{Counted}
 use Rattle.transcript.specs.Place.{placed_at}
-use Rattle.lamp_lines.specs.Lines.{byte_lines, lines_text, lines_are}
+use Rattle.lamp_lines.specs.Lines.{byte_lines, lines_text}
+use Rattle.lamp_lines.proofs.Lines.{lines_are}
 use Rattle.transcript.specs.Said.{file_of, bytes_of, log_outcome, or_refused, stop_text, behind_text, opened_text}
 
 module _ {b now : List ℕ} {end : ℕ} where

@@ -13,7 +13,7 @@ use Rattle.words.specs.Unions.{word_at_lem}
 use Rattle.shape.specs.Ops.{op_at}
 use Rattle.node_value.specs.Unfold.{guess_of, pushed_of, value_at, carry_at}
 use Rattle.node_value.specs.Back.{back}
-use Rattle.node_value.specs.Rows.{hands_on, Grown, rule_told}
+use Rattle.node_value.proofs.Rows.{hands_on, Grown, rule_told}
 use Rattle.within.specs.Within.{HoldsWithin}
 use Rattle.within.specs.Turn.{stack_after, ahead_from, stack_from}
 use Rattle.within.proofs.Rows.{row, rows_right}

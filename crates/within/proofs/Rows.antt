@@ -15,7 +15,7 @@ use Rattle.syntax.specs.Grammar.{Level, Side, Atom, is_false, is_true, is_prop, 
 use Rattle.theory.specs.Until.{Until, Release, until_unfold, release_unfold, globally_release}
 use Rattle.node_value.specs.Unfold.{guess_of}
 use Rattle.node_value.specs.Back.{back}
-use Rattle.node_value.specs.Rows.{Truths, row_of, Tells, Rows}
+use Rattle.node_value.proofs.Rows.{Truths, row_of, Tells, Rows}
 use Rattle.within.specs.Within.{HoldsWithin}
 
 -- x and y have the truth of P and Q at each of the n events

@@ -27,7 +27,7 @@ use Rattle.words.specs.Tests.{eq_says}
 use Rattle.words.specs.Folds.{any_says}
 use Rattle.words.specs.Unions.{bit_union}
 use Rattle.shape.specs.Ops.{op_at}
-use Rattle.node_value.specs.Rows.{nodes_at}
+use Rattle.node_value.proofs.Rows.{nodes_at}
 use Rattle.within.specs.Seen.{Uses}
 
 -- the proposition that a node is, as a set

@@ -4,7 +4,7 @@ use Rattle.syntax.specs.Grammar.{names}
 use Rattle.rule_value.specs.Valid.{RuleValue}
 use Rattle.rule.specs.Printing.{text_of}
 use Rattle.rule_value.specs.Values.{valid_rule}
-use Rattle.rule.specs.Prints.{room, printable, long, laid, too_short, fitting}
+use Rattle.rule.proofs.Prints.{room, printable, long, laid, too_short, fitting}
 use Rattle.rule.proofs.print_rule.Goals as goal
 
 -- a value that is accepted is a rule's, and the room is its text's length

@@ -1,6 +1,6 @@
 -- `numbers::join`: what the rounds leave is a list of first rows, and its numbers are those of the classes.
 use Rattle.std.proofs.Common.{◌∙◌, arith, rules}
-use Rattle.machines.specs.Rounds.{agree_sorts}
+use Rattle.machines.proofs.Rounds.{agree_sorts}
 use Rattle.machines.specs.Joined.{joined}
 use Rattle.machines.specs.Held.{machine_of}
 use Rattle.joined.specs.Join.{leading, leaders_counted, ranks_written}

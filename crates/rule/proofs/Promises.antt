@@ -25,7 +25,7 @@ use Rattle.rule.specs.Printing.{text_of, no_print, print_answer, print_buffer}
 use Rattle.rule_text.specs.Paper.{Beside, Takes, Because}
 use Rattle.rule_text.proofs.Judged.{reads_rule, Accepts, text_accepted}
 use Rattle.rule_value.specs.Values.{valid_exactly}
-use Rattle.rule.specs.Prints.{text_is, Printing, no_rule_lem, no_room, its_text_lem, printing, answer_none, answer_room, answer_text}
+use Rattle.rule.proofs.Prints.{text_is, Printing, no_rule_lem, no_room, its_text_lem, printing, answer_none, answer_room, answer_text}
 use Rattle.rule_text.proofs.Answering as answering
 
 -- what stands in an answer of print_rule
