@@ -14,7 +14,7 @@ use Rattle.syntax.proofs.Values.{parts_held}
 use Rattle.truth.specs.Ready.{Ready}
 use Rattle.truth.specs.Tables.{tables_of}
 use Rattle.truth.specs.RightTables.{RightTables}
-use Rattle.truth_laws.specs.TablesRight.{tables_ready, tables_right}
+use Rattle.truth_laws.proofs.TablesRight.{tables_ready, tables_right}
 use Rattle.checks.specs.Checks.{input_outcome}
 use Rattle.checks.specs.Input.{Input, input_accepted}
 

@@ -39,7 +39,8 @@ use Rattle.sides.specs.Held.{monitor_of}
 use Rattle.event_numbers.specs.Numbers.{number_of, missing_of, first_none, unseen, brings, InTurn, in_turn, event_outcome}
 use Rattle.monitor.specs.declared.Watched.{Watched}
 use Rattle.monitor.specs.Calls.{watched, open_call, step_call}
-use Rattle.watching.specs.Filled.{expected_from, seen_from, filled_from, filled, filled_more, expected_append}
+use Rattle.watching.specs.Filled.{expected_from, seen_from, filled_from, filled, expected_append}
+use Rattle.watching.proofs.Filled.{filled_more}
 use Rattle.watching.specs.Watching.{Held, Taken, TakenFrom, AllTaken, brought, brought_sets, run_seen, event_says, checks_pass, opens}
 use Rattle.stretches.specs.declared.DaySheet.{DaySheet}
 use Rattle.stretches.specs.Sheet.{sheet_of, empty_sheet, noted_by}

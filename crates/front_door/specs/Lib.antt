@@ -1,8 +1,3 @@
 pub mod FrontDoor
-pub mod Lamps
-mod RuleEnd
-pub mod FromTexts
-pub mod OneOutput
-pub mod FromLog
+pub mod RuleEnd
 pub mod WholeLog
-pub mod AtEnd

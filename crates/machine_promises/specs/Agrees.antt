@@ -25,7 +25,8 @@ use Rattle.sides.specs.Held.{lamp_in}
 use Rattle.monitor.specs.declared.Watched.{Watched}
 use Rattle.monitor.proofs.Given.{legal_is}
 use Rattle.watching.specs.Filled.{filled}
-use Rattle.watching.specs.Watching.{after, TakenFrom, AllTaken, after_model}
+use Rattle.watching.specs.Watching.{after, TakenFrom, AllTaken}
+use Rattle.watching.proofs.Watching.{after_model}
 use Rattle.columns.specs.Columns.{columns_of}
 use Rattle.columns.proofs.Columns.{columns_count, columns_at}
 use Rattle.machines.specs.Machine.{Machine, run, Columns, none, more}

@@ -32,7 +32,8 @@ use Rattle.sides.specs.Held.{lamp_in}
 use Rattle.event_numbers.specs.Numbers.{number_of, missing_of}
 use Rattle.monitor.specs.declared.Watched.{Watched}
 use Rattle.watching.specs.Filled.{filled}
-use Rattle.watching.specs.Watching.{after, AllTaken, after_model}
+use Rattle.watching.specs.Watching.{after, AllTaken}
+use Rattle.watching.proofs.Watching.{after_model}
 use Rattle.columns.specs.Columns.{columns_of, count_of}
 use Rattle.columns.proofs.Columns.{columns_count}
 use Rattle.machines.specs.Machine.{Machine, run, Columns}

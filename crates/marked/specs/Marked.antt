@@ -3,7 +3,7 @@ use Rattle.std.specs.Prelude.{ℕ, ◌≡◌, refl, true, List, [], ◌∷◌, �
 use Prim.Native.Char.{code}
 use Prim.Native.String.{String}
 use Prim.Native.String as letters
-use Rattle.std.proofs.Common.{ap, ap₂, ◌∙◌}
+use Rattle.std.proofs.Common.{ap, ap₂}
 use Rattle.std.proofs.Math.Bool.{So}
 use Rattle.words.specs.Below.{list_below, union_below}
 use Rattle.words.specs.Truth.{and_says}
@@ -16,7 +16,7 @@ use Rattle.text.specs.Count.{counted}
 use Rattle.text.specs.Many.{offset, slots_below, listed}
 use Rattle.text.specs.Lines.{begun}
 use Rattle.text.specs.LinesRead.{lines_read, line_or}
-use Rattle.model.specs.Marked.{marked, marked_shown}
+use Rattle.model.specs.Marked.{marked}
 use Rattle.answers.specs.Paper.{Paper, verdict}
 use Rattle.plant.specs.Table.{united}
 use Rattle.plant.specs.Read.{table_read, read_as}
@@ -113,7 +113,7 @@ rows =
 
 -- ---- the claim
 
-abbrev said_in : Row → Said
+abbrev pub said_in : Row → Said
 said_in r = said_by r.table r.rule r.log
 
 -- all texts are accepted, and read as the tables, rules and logs of model's table, by the readers' own definitions
@@ -122,25 +122,21 @@ unfolding table_read read_as union_below list_below united width_of digit_or0 he
 texts_read = refl
 
 -- so each is shown the model's lamp
-all_shown : (rs : List Row) → So (every (λ x. x.fine) (map said_in rs)) → map (λ r. shown_for r.table r.rule r.log) rs ≡ map model_shown (map said_in rs)
+pub all_shown : (rs : List Row) → So (every (λ x. x.fine) (map said_in rs)) → map (λ r. shown_for r.table r.rule r.log) rs ≡ map model_shown (map said_in rs)
 unfolding every
 all_shown [] fine = refl
 all_shown (r ∷ rs) fine =
     let (first, others) = (and_says (said_in r).fine (every (λ x. x.fine) (map said_in rs))).0 fine in
     ap₂ ◌∷◌ (texts_shown r.table r.rule r.log first) (all_shown rs others)
 
-all_fine : So (every (λ x. x.fine) (map said_in rows))
+pub all_fine : So (every (λ x. x.fine) (map said_in rows))
 unfolding every
 all_fine = ap (every (λ (x : Said). x.fine)) texts_read
 
 -- what model's table shows, on paper
-abbrev on_paper : List ℕ → Paper
+abbrev pub on_paper : List ℕ → Paper
 on_paper l = verdict (get_or l 0 0) (get_or l 1 0)
 
 -- row by row it is what stands here
-rows_same : map on_paper (map (λ m. m.shows) marked) ≡ map (λ r. r.shows) rows
+pub rows_same : map on_paper (map (λ m. m.shows) marked) ≡ map (λ r. r.shows) rows
 rows_same = refl
-
--- THE CLAIM: for each row the calls show what stands in it
-pub marked_called : map (λ r. shown_for r.table r.rule r.log) rows ≡ map (λ r. r.shows) rows
-marked_called = all_shown rows all_fine ∙ ap (map model_shown) texts_read ∙ ap (map on_paper) marked_shown ∙ rows_same

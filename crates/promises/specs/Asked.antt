@@ -1,55 +1,44 @@
 -- What the other calls answer behind a log (promise 3 of docs/PROMISES.md): `look` shows the lamp once more; and `witness`, lent a buffer of the room it asks for, writes a run of the asked
 -- kind where there is one, and is refused by 13 where there is none.
 use mathlib.Core.Logic.Iff
-use Prim.Native.Nat.{ℕ, ◌+◌, ◌^◌, ◌≤◌, ◌<◌}
-use Rattle.std.proofs.Common.{arith, subst, ◌∙◌, inr, le-ltb}
-use Rattle.std.specs.Prelude.{◌≡◌, ◌↔◌, false, ltb, length}
-use Rattle.std.proofs.Math.Path.{refl, sym, ap}
+use Prim.Native.Nat.{ℕ, ◌+◌, ◌^◌, ◌≤◌}
+use Rattle.std.proofs.Common.{arith, subst, ◌∙◌, le-ltb}
+use Rattle.std.specs.Prelude.{◌≡◌, false, ltb, length}
+use Rattle.std.proofs.Math.Path.{sym, ap}
 use Rattle.std.proofs.Math.Bool.{Bool, true, not}
 use mathlib.Core.List.{List, [], ◌∷◌, ◌++◌}
-use Rattle.meaning.specs.Says.{Says}
 use Rattle.meaning.specs.Limits.{most_stem, most_loop, witness_room}
 use Rattle.meaning.specs.Formula.{Formula}
-use Rattle.meaning.specs.Run.{Lasso, state_at}
+use Rattle.meaning.specs.Run.{Lasso}
 use Rattle.meaning.specs.Run as run
 use Rattle.meaning.specs.Event.{History, since, now}
-use Rattle.meaning.specs.Verdict.{Chosen, At, Possible}
-use Rattle.words.specs.Truth.{not_so}
+use Rattle.meaning.specs.Verdict.{Chosen}
 use Rattle.words.specs.Over.{over}
 use Rattle.theory.specs.Join.{walk_then}
-use Rattle.theory.specs.Step.{pair_live}
-use Rattle.theory.specs.Values.{values_at, pair_of}
-use Rattle.theory.proofs.Alive.{valuations_few}
-use Rattle.pairs.specs.Sets.{occupied}
-use Rattle.model.specs.LiveSet.{meet_of, live_set}
-use Rattle.model.proofs.Lives.{live_says}
-use Rattle.model.specs.Reaching.{meet_says}
 use Rattle.model.specs.Sets.{PairSet}
 use Rattle.model.specs.Monitor as model
 use Rattle.model.proofs.Log as log
-use Rattle.model.proofs.Witness.{has_live, witness_says}
-use Rattle.answers.specs.declared.Kind.TheVariants.{Room, NoPair}
+use Rattle.answers.specs.declared.Kind.TheVariants.{Room}
 use Rattle.answers.specs.declared.Outcome.{Outcome}
-use Rattle.answers.specs.declared.Outcome.TheVariants.{Accepted, Refused}
-use Rattle.answers.specs.Paper.{refused_at}
-use Rattle.answers.specs.Chain.{refused_as, differ, unless, chain_accepts, chain_refuses, unless_accepts, unless_refuses}
+use Rattle.answers.specs.declared.Outcome.TheVariants.{Accepted}
+use Rattle.answers.specs.Chain.{unless, chain_accepts, unless_accepts}
 use Rattle.plant.specs.declared.Plant.{Plant}
 use Rattle.syntax.specs.declared.Rule.{Rule}
 use Rattle.event_log.specs.declared.Event.{Event}
 use Rattle.checks.specs.Input.{Input}
 use Rattle.sides.specs.declared.Monitor.{Monitor}
 use Rattle.sides.specs.Held.{model_of}
-use Rattle.event_numbers.specs.Numbers.{number_of, event_outcome}
+use Rattle.event_numbers.specs.Numbers.{number_of}
 use Rattle.monitor.specs.declared.Watched.{Watched}
-use Rattle.monitor.specs.Calls.{lamp_of, lit, look_call, open_call}
+use Rattle.monitor.specs.Calls.{lamp_of, lit, look_call}
 use Rattle.monitor.specs.Promises.{Fits, look_accepted}
 use Rattle.watching.specs.Watching as watching
 use Rattle.watching.specs.Filled.{expected_from, filled}
-use Rattle.watching.specs.Watching.{TakenFrom, AllTaken, taken_ones, event_says, after_any, after_model}
+use Rattle.watching.specs.Watching.{TakenFrom, AllTaken, taken_ones}
+use Rattle.watching.proofs.Watching.{after_model}
 use Rattle.witness.specs.declared.Witnessed.{Witnessed}
 use Rattle.witness.specs.declared.Witnessed.TheVariants as Answers
-use Rattle.witness.specs.Calls.{AnsweredAs, Answered, asked_of, witness_outcome}
-use Rattle.promises.specs.Demand.{witness_goes_on}
+use Rattle.witness.specs.Calls.{AnsweredAs, Answered, asked_of}
 
 -- a run of the asked kind goes on by what was written: r tells how many states the stem has and the loop, within 01's bounds, and the buffer begins with their numbers, the other bytes as they were.
 -- With some walk along the events before it, it is a run that agrees with them and keeps the rule, or breaks it
@@ -64,10 +53,10 @@ pub record GoesOn (T : run.Plant) (f : Formula) (h : History) (b : Bool) (before
   pub chosen : Chosen T f b h (walk_then walk lasso)
 
 module _ (p : Plant) (fair label next : List ℕ) (rule : Rule) (given : Input p fair label next rule) where
-  abbrev T : run.Plant
+  abbrev pub T : run.Plant
   T = watching.T p fair label next rule
 
-  abbrev f : Formula
+  abbrev pub f : Formula
   f = watching.f p fair label next rule
 
   -- behind accepted events the number expected is at most 2 ^ 32
@@ -76,24 +65,24 @@ module _ (p : Plant) (fair label next : List ℕ) (rule : Rule) (given : Input p
   expected_low seen n (e ∷ es) (t, ts) low = expected_low true (number_of e.num n + 1) es ts (omega (arith, t.1.number))
 
   module _ (es : List Event) (taken : AllTaken p fair label next rule es) where
-    abbrev h : History
+    abbrev pub h : History
     h = since (filled es)
 
     -- the monitor that the calls give, and the model's
-    abbrev m : Monitor
+    abbrev pub m : Monitor
     m = (watching.after p fair label next rule es).monitor
 
-    abbrev seen : model.Monitor
+    abbrev pub seen : model.Monitor
     seen = log.watched T f (filled es)
 
-    is_seen : model_of m ≡ seen
+    pub is_seen : model_of m ≡ seen
     is_seen = ap (λ (w : Watched). model_of w.monitor) (after_model p fair label next rule given es taken)
 
     sets : (b : Bool) → PairSet T f (model.side (model_of m) b)
     sets b = subst (λ (x : model.Monitor). PairSet T f (model.side x b)) (sym is_seen) ((log.log_means T f given.table given.few (filled es)).sets b)
 
     -- numbers are left, or used up
-    low : m.expected ≤ 2 ^ 32
+    pub low : m.expected ≤ 2 ^ 32
     low = subst (λ (w : Watched). w.monitor.expected ≤ 2 ^ 32) (sym (after_model p fair label next rule given es taken)) (expected_low false 0 es taken (omega arith))
 
     fits : Fits p fair label next rule (watching.full p fair label next rule given) m
@@ -108,35 +97,11 @@ module _ (p : Plant) (fair label next : List ℕ) (rule : Rule) (given : Input p
         ap (λ (o : Outcome). lit o (model_of m)) ((look_accepted p fair label next rule (watching.full p fair label next rule given) m).1 (given, fits))
         ∙ ap lamp_of is_seen ∙ sym (ap (λ (w : Watched). w.answer) (after_model p fair label next rule given es taken))
 
-    -- ---- asking for a run
-
-    -- the asked set has a live pair exactly if there is a run of the kind
-    seen_live : (b : Bool) → Says (has_live T f (model.side seen b)) (Possible T f h b)
-    unfolding has_live
-    seen_live b = (
-      λ e.
-          let (L, w) = (witness_says T f given.table given.few (model.side seen b)).0 e in
-          let (walk, _, c) = log.log_witness T f given.table given.few (filled es) b L w in
-          (walk_then walk L, c),
-      λ (L, c).
-          let s = state_at L (now h) in
-          let v = values_at T f L (now h) in
-          let q = pair_of T f L c.run.walk (now h) in
-          let a : At T f b h s v = record { lasso = L; chosen = c; pair = q } in
-          let i = (log.log_sets T f given.table given.few (filled es) b s v).1 a in
-          let l = (live_says T f given.table given.few s v).1 (pair_live T f L (now h) s v c.run.walk q) in
-          let low : v < 64 = (let k = q.small in let n = valuations_few f given.few in omega arith) in
-          rw (occupied (meet_of (model.side seen b) (live_set T f)) s v low ((meet_says (model.side seen b) (live_set T f) s v).1 (low, (i, l)))),
-    )
-
     module _ (b : Bool) where
-      held_live : Says (has_live T f (model.side (model_of m) b)) (Possible T f h b)
-      held_live = subst (λ (x : model.Monitor). Says (has_live T f (model.side x b)) (Possible T f h b)) (sym is_seen) (seen_live b)
-
       -- a buffer of 01's room
       module _ (room : ℕ) (enough : witness_room ≤ room) where
         -- no check but 13 is left
-        asked : asked_of p fair label next rule m room ≡ Accepted
+        pub asked : asked_of p fair label next rule m room ≡ Accepted
         unfolding asked_of
         asked =
             (chain_accepts _ (unless (not (ltb room witness_room)) Room)).1 (
@@ -144,76 +109,13 @@ module _ (p : Plant) (fair label next : List ℕ) (rule : Rule) (given : Input p
               (unless_accepts (not (ltb room witness_room)) Room).1 (ap not (le-ltb room witness_room enough)),
             )
 
-        -- the call is accepted exactly if there is a run of the asked kind
-        pub witness_exactly : (witness_outcome p fair label next rule m b room ≡ Accepted) ↔ Possible T f h b
-        unfolding witness_outcome
-        witness_exactly =
-            Iff.trans (chain_accepts (asked_of p fair label next rule m room) (unless (has_live T f (model.side (model_of m) b)) NoPair)) (
-              λ x. held_live.0 ((unless_accepts _ NoPair).0 x.1),
-              λ q. (asked, (unless_accepts _ NoPair).1 (held_live.1 q)),
-            )
-
-        -- and refused by 13 exactly if there is none
-        pub thirteen_exactly : (witness_outcome p fair label next rule m b room ≡ refused_as NoPair) ↔ (Possible T f h b → ⊥)
-        unfolding witness_outcome
-        thirteen_exactly = (
-          λ e q. differ Accepted (refused_as NoPair) (λ n. omega arith) (witness_exactly.1 q) e,
-          λ none.
-              (chain_refuses (asked_of p fair label next rule m room) (unless (has_live T f (model.side (model_of m) b)) NoPair) (refused_at NoPair 0)).1
-              (inr (asked, (unless_refuses _ NoPair).1 (not_so _ (λ so. none (held_live.0 so))))),
-        )
-
       -- so by its contract, of any buffer of that room: what it answers and what the buffer then holds
       module _ (before bytes : List ℕ) (enough : witness_room ≤ length before) (r : Witnessed) (answered : Answered p fair label next rule m b before bytes r) where
-        abbrev As : Outcome → Type 0
+        abbrev pub As : Outcome → Type 0
         As o = AnsweredAs T f (model.side (model_of m) b) o before bytes r
-
-        pub run_written : Possible T f h b → GoesOn T f h b before bytes r
-        run_written q =
-            let (l, is, s) = subst As ((witness_exactly (length before) enough).1 q) answered in
-            let (walk, long, c) = witness_goes_on p fair label next rule given es taken b s.lasso s.witness in
-            record {
-              lasso = s.lasso;
-              lengths = is ∙ ap Answers.Run (λ i. record { stem = sym s.stem_is i; turn = sym s.turn_is i });
-              written = s.bytes;
-              short_stem = s.witness.stem;
-              short_loop = s.witness.loop;
-              walk = walk;
-              long = long;
-              chosen = c;
-            }
-
-        pub none_refused : (Possible T f h b → ⊥) → (r ≡ Answers.Refused (refused_at NoPair 0)) × (bytes ≡ before)
-        none_refused none = subst As ((thirteen_exactly (length before) enough).1 none) answered
-
-  -- before any event a look shows what `open` showed
-  pub look_opened : let opened = open_call p fair label next rule (watching.live p fair label next rule) in look_call p fair label next rule opened.monitor ≡ opened.answer
-  unfolding watching.after
-  look_opened = look_same [] tt
 
   -- ---- with refused events among them
 
   -- the accepted ones
-  abbrev ones : List Event → List Event
+  abbrev pub ones : List Event → List Event
   ones es = taken_ones p fair label next rule false 0 es
-
-  -- each of them is accepted behind those before it
-  ones_taken : (seen : Bool) (expected : ℕ) (es : List Event) → TakenFrom p fair label next rule seen expected (taken_ones p fair label next rule seen expected es)
-  unfolding taken_ones
-  ones_taken seen expected [] = tt
-  ones_taken seen expected (e ∷ es) = by (ones_taken true (number_of e.num expected + 1) es) (ones_taken seen expected es) (event_outcome e p.props seen expected) refl
-    where
-      From : Bool → ℕ → List Event → Type 0
-      From seen n es = TakenFrom p fair label next rule seen n (taken_ones p fair label next rule seen n es)
-
-      by : From true (number_of e.num expected + 1) es → From seen expected es → (o : Outcome) → event_outcome e p.props seen expected ≡ o → From seen expected (e ∷ es)
-      by behind other Accepted ok = rw ok ((event_says p fair label next rule given e seen expected).0 ok, behind)
-      by behind other (Refused r) bad = rw bad other
-
-  -- whatever events came, the monitor is the one behind those accepted. So what is said above holds of it
-  pub monitor_any : (es : List Event) → (watching.after p fair label next rule es).monitor ≡ (watching.after p fair label next rule (ones es)).monitor
-  monitor_any es = after_any p fair label next rule given es ∙ sym (ap (λ (w : Watched). w.monitor) (after_model p fair label next rule given (ones es) (ones_taken false 0 es)))
-
-  -- and a look shows the lamp of the last accepted call
-  pub look_any : (es : List Event) → look_call p fair label next rule (watching.after p fair label next rule es).monitor ≡ (watching.after p fair label next rule (ones es)).answer
-  look_any es = ap (look_call p fair label next rule) (monitor_any es) ∙ look_same (ones es) (ones_taken false 0 es)

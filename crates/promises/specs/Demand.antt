@@ -33,8 +33,10 @@ use Rattle.event_numbers.specs.Numbers.{missing_of, unseen, brings}
 use Rattle.monitor.specs.Calls.{lamp_of}
 use Rattle.monitor.specs.Promises.{lamp_paper}
 use Rattle.watching.specs.Watching as watching
-use Rattle.watching.specs.Filled.{seen_from, expected_from, filled, filled_more}
-use Rattle.watching.specs.Watching.{AllTaken, after_model}
+use Rattle.watching.specs.Filled.{seen_from, expected_from, filled}
+use Rattle.watching.proofs.Filled.{filled_more}
+use Rattle.watching.specs.Watching.{AllTaken}
+use Rattle.watching.proofs.Watching.{after_model}
 
 -- the first set (b is true) and the second
 abbrev pub side_of : Monitor → Bool → List ℕ

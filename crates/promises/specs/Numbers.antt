@@ -17,7 +17,8 @@ use Rattle.event_numbers.specs.Numbers.{number_of, unseen}
 use Rattle.monitor.specs.declared.Watched.{Watched}
 use Rattle.watching.specs.Filled.{seen_from, expected_from, filled_from, filled, filled_append, expected_append}
 use Rattle.watching.specs.Watching as watching
-use Rattle.watching.specs.Watching.{Taken, TakenFrom, AllTaken, after, after_model, shows}
+use Rattle.watching.specs.Watching.{Taken, TakenFrom, AllTaken, after, shows}
+use Rattle.watching.proofs.Watching.{after_model}
 
 -- ---- no gap
 

@@ -34,7 +34,8 @@ use Rattle.event_numbers.specs.Numbers.{number_of, event_outcome}
 use Rattle.monitor.specs.declared.Watched.{Watched}
 use Rattle.monitor.specs.Promises.{lamp_paper}
 use Rattle.watching.specs.Filled.{filled}
-use Rattle.watching.specs.Watching.{after, TakenFrom, event_says, after_model}
+use Rattle.watching.specs.Watching.{after, TakenFrom, event_says}
+use Rattle.watching.proofs.Watching.{after_model}
 
 -- ---- the calls
 

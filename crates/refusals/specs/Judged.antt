@@ -1,6 +1,6 @@
 -- How a chain of checks follows a table of causes, row by row.
 use Rattle.std.specs.Prelude.{ℕ, ◌≡◌, refl, ◌↔◌, ◌⊎◌, Bool, true, false, ◌&&◌, not, List}
-use Rattle.std.proofs.Common.{sym, ap, ap₂, subst, ◌∙◌, inl, inr}
+use Rattle.std.proofs.Common.{sym, ap, subst, ◌∙◌, inl, inr}
 use Rattle.std.proofs.Math.Bool.{So}
 use Rattle.std.proofs.lemmas.Bool.{false≢true}
 use Rattle.meaning.specs.Says.{Says}
@@ -9,13 +9,12 @@ use Rattle.answers.specs.declared.Outcome.{Outcome}
 use Rattle.answers.specs.declared.Outcome.TheVariants.{Accepted, Refused}
 use Rattle.answers.specs.Paper.{Paper, verdict, refused, accepted, kind_number, refusal}
 use Rattle.answers.specs.Chain.{refused_as, and_then, unless}
-use Rattle.answers.proofs.Promises.{one_kind}
-use Rattle.refusals.specs.Causes.{Rows, end, row, First, Because, NoCause, Taken}
+use Rattle.refusals.specs.Causes.{Rows, end, row, First, NoCause, Taken}
 
 -- ---- tables
 
 -- where a row applies there is a cause
-first_cause : (rs : Rows) (k : Kind) → First rs k → NoCause rs → ⊥
+pub first_cause : (rs : Rows) (k : Kind) → First rs k → NoCause rs → ⊥
 unfolding First NoCause
 first_cause end k f n = f
 first_cause (row j cause rest) k (inl (e, x)) (z, ns) = z x
@@ -101,12 +100,12 @@ is_refused (refused n q) = true
 is_refused (verdict n left) = false
 is_refused (accepted ns) = false
 
-abbrev number_in : Paper → ℕ
+abbrev pub number_in : Paper → ℕ
 number_in (refused n q) = n
 number_in (verdict n left) = 0
 number_in (accepted ns) = 0
 
-abbrev place_in : Paper → ℕ
+abbrev pub place_in : Paper → ℕ
 place_in (refused n q) = q
 place_in (verdict n left) = 0
 place_in (accepted ns) = 0
@@ -118,19 +117,6 @@ pub accepted_taken : (ns : List ℕ) → Taken (accepted ns)
 accepted_taken ns m q e = false≢true (ap is_refused e)
 
 module _ (rs : Rows) {a : Paper} {o : Outcome} (tells : Tells a o) where
-  pub refused_because : Judged rs o → (k : Kind) (q : ℕ) → (a ≡ refused (kind_number k) q) ↔ Because rs k q
-  refused_because j k q = (there j, back j)
-    where
-      there : Judged rs o → a ≡ refused (kind_number k) q → Because rs k q
-      there (by_none n e) r = absurd (subst (Tells a) e tells (kind_number k) q r)
-      there (by_row i f e) r =
-          let same : refused (kind_number i) 0 ≡ refused (kind_number k) q = sym (subst (Tells a) e tells) ∙ r in
-          (subst (First rs) (one_kind i k (ap number_in same)) f, sym (ap place_in same))
-
-      back : Judged rs o → Because rs k q → a ≡ refused (kind_number k) q
-      back (by_none n e) (f, z) = absurd (first_cause rs k f n)
-      back (by_row i g e) (f, z) = subst (Tells a) e tells ∙ ap₂ refused (ap kind_number (first_one rs i k g f)) (sym z)
-
   pub taken_as : Judged rs o → Taken a ↔ NoCause rs
   taken_as (by_none n e) = (λ t. n, λ n. subst (Tells a) e tells)
   taken_as (by_row i f e) = (λ t. absurd (t (kind_number i) 0 (subst (Tells a) e tells)), λ n. absurd (first_cause rs i f n))

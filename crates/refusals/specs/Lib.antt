@@ -1,4 +1,3 @@
 pub mod Causes
-mod Judged
-pub mod Refusals
+pub mod Judged
 pub mod OnPaper

@@ -5,4 +5,3 @@ pub mod ReportForm
 pub mod Reading
 pub mod Stages
 pub mod Local
-pub mod Places

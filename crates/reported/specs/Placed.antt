@@ -24,7 +24,8 @@ use Rattle.event_log.specs.Legal.{seen_of, event_of}
 use Rattle.event_log.specs.Log.{nothing}
 use Rattle.event_log.specs.Promises.{AllWritable}
 use Rattle.event_numbers.specs.Numbers.{number_of, missing_of, unseen}
-use Rattle.watching.specs.Filled.{expected_from, seen_from, filled, expected_at, number_at, InTurnAt, filled_more, expected_append}
+use Rattle.watching.specs.Filled.{expected_from, seen_from, filled, expected_at, number_at, InTurnAt, expected_append}
+use Rattle.watching.proofs.Filled.{filled_more}
 use Rattle.shown.specs.Positions.{position_of, position_at, mark_of}
 use Rattle.shown.specs.Shown.{AgreesAll}
 

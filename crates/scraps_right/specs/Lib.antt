@@ -5,7 +5,5 @@ pub mod Broken
 pub mod Texts
 pub mod Fine
 pub mod Promises
-pub mod Beside
 pub mod Written
-pub mod FromTexts
 pub mod OneAnswer

@@ -16,7 +16,7 @@ use Rattle.answers.specs.declared.Lamp.{Lamp}
 use Rattle.answers.specs.declared.Answer.TheVariants.{Shown}
 use Rattle.answers.specs.Paper.{Paper, verdict, refused, accepted, number_of}
 use Rattle.promises.specs.Demand.{Lit}
-use Rattle.front_door.specs.OneOutput.{lit_right}
+use Rattle.front_door.proofs.OneOutput.{lit_right}
 use Rattle.sensors.specs.Sensors.{Smaller, AsMuch}
 
 -- a run that agrees with the second history on the second table does with the first on the first, is there now where it is here, and is judged alike

@@ -1,3 +1,2 @@
 pub mod Sensors
-mod Fewer
-pub mod Better
+pub mod Fewer

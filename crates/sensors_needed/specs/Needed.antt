@@ -2,7 +2,7 @@
 -- behind the last event, computed as the marked examples are (marked/specs/Marked).
 use Rattle.std.specs.Prelude.{ℕ, ◌≡◌, refl, true, false, List, [], ◌∷◌, ◌++◌, map}
 use Prim.Native.String.{String}
-use Rattle.std.proofs.Common.{ap, ap₂, ◌∙◌, arith, ⊎_elim}
+use Rattle.std.proofs.Common.{ap, ap₂, arith, ⊎_elim}
 use Rattle.std.proofs.Math.Bool.{So}
 use Rattle.words.specs.Truth.{and_says}
 use Rattle.words.specs.Below.{any_below, count_below, list_below, union_below, word_of, filled, words_below}
@@ -122,11 +122,11 @@ pairs =
 
 -- ---- the claim
 
-abbrev rows_of : List Pair → List Row
+abbrev pub rows_of : List Pair → List Row
 rows_of [] = []
 rows_of (p ∷ ps) = p.first ∷ p.second ∷ rows_of ps
 
-abbrev said_in : Row → Said
+abbrev pub said_in : Row → Said
 said_in r = said_by r.table r.rule r.log
 
 -- the tables, rules and events that the texts say
@@ -148,7 +148,7 @@ says t f es = record { fine = true; on = t; rule = f; log = es }
 abbrev answered : Formula
 answered = globally (implies (prop 0) (finally (prop 1)))
 
-abbrev said : List Said
+abbrev pub said : List Said
 said =
     says w (finally (prop 1)) (see 3 0 ∷ see 3 1 ∷ see 3 2 ∷ [])
     ∷ says w (finally (prop 1)) (see 3 0 ∷ see 3 0 ∷ see 3 0 ∷ [])
@@ -168,29 +168,25 @@ said =
     ∷ says w (next (prop 0)) (see 0 0 ∷ [])
     ∷ []
 
-texts_read : map said_in (rows_of pairs) ≡ said
+pub texts_read : map said_in (rows_of pairs) ≡ said
 unfolding table_read read_as union_below list_below united width_of digit_or0 hex_slots hex_guess lead_of next_of last_of count_slots count_of digit_value admits matched led ended both seen hex counted offset slots_below listed begun lines_read line_or leading log_read_lem.is_numbered log_read_lem.read_as log_read_lem.event_as sign_of leaf_of name_of name_bytes lex_sign lex head tail read more parse closes named teen scan_from scan count ops_of nodes_of written unknown unknown_at decode formula_of legal_of in_turn event_outcome
 texts_read = refl
 
-lamps_shown : map model_shown said ≡ map (λ (r : Row). r.shows) (rows_of pairs)
+pub lamps_shown : map model_shown said ≡ map (λ (r : Row). r.shows) (rows_of pairs)
 unfolding bit any_below count_below union_below list_below word_of filled words_below states_of left_of same_of post_of reached_at pre_of leading_at agreeing_of parts value table fit settled every settle leaving entering from to join_of leading_of meet_of before widen reaching goal_sets narrow all_pairs live_set holding opens_at opening source_at kept_of step_of run_of verdict_of model.verdict left
 lamps_shown = refl
 
 -- all texts are accepted
-all_fine : So (every (λ (x : Said). x.fine) (map said_in (rows_of pairs)))
+pub all_fine : So (every (λ (x : Said). x.fine) (map said_in (rows_of pairs)))
 unfolding every
 all_fine = ap (every (λ (x : Said). x.fine)) texts_read
 
-all_shown : (rs : List Row) → So (every (λ (x : Said). x.fine) (map said_in rs)) → map (λ (r : Row). shown_for r.table r.rule r.log) rs ≡ map model_shown (map said_in rs)
+pub all_shown : (rs : List Row) → So (every (λ (x : Said). x.fine) (map said_in rs)) → map (λ (r : Row). shown_for r.table r.rule r.log) rs ≡ map model_shown (map said_in rs)
 unfolding every
 all_shown [] fine = refl
 all_shown (r ∷ rs) fine =
     let (first, others) = (and_says (said_in r).fine (every (λ (x : Said). x.fine) (map said_in rs))).0 fine in
     ap₂ ◌∷◌ (texts_shown r.table r.rule r.log first) (all_shown rs others)
-
--- THE CLAIM: for each row the calls show what stands in it
-pub each_needed : map (λ (r : Row). shown_for r.table r.rule r.log) (rows_of pairs) ≡ map (λ (r : Row). r.shows) (rows_of pairs)
-each_needed = all_shown (rows_of pairs) all_fine ∙ ap (map model_shown) texts_read ∙ lamps_shown
 
 -- ---- and by these the law does not hold
 

@@ -1,14 +1,7 @@
 pub mod Tree
-pub mod Stands
 pub mod Grows
 pub mod Begins
 pub mod Counts
-pub mod Order
 pub mod Apart
-pub mod Numbers
-pub mod Occurs
 pub mod Words
-pub mod Shown
 pub mod Told
-pub mod Entries
-pub mod TablesRight

@@ -1,6 +1,6 @@
 -- ALL EVENTS, LOST ONES TOO (02, h): those that the runs are judged by. What must be believed of numbers is here and in event_numbers/specs/Numbers.
 use Rattle.std.specs.Prelude.{ℕ, ◌+◌, ◌≡◌, refl, Bool, true, false, List, [], ◌∷◌, ◌++◌, get_or, take}
-use Rattle.std.proofs.Common.{sym, ap, ◌∙◌, append_assoc, append-nil}
+use Rattle.std.proofs.Common.{sym, ap, ◌∙◌, append_assoc}
 use Rattle.meaning.specs.Event as meaning
 use Rattle.event_log.specs.declared.Event.{Event}
 use Rattle.event_log.specs.Log.{nothing}
@@ -48,10 +48,6 @@ filled_append seen n (e ∷ es) fs =
     came : (es : List Event) → seen_from true es ≡ true
     came [] = refl
     came (e ∷ es) = refl
-
--- one event more
-pub filled_more : (es : List Event) (e : Event) → filled (es ++ e ∷ []) ≡ filled es ++ brings (seen_from false es) (expected_from 0 es) e
-filled_more es e = filled_append false 0 es (e ∷ []) ∙ ap (λ (l : List meaning.Event). filled es ++ l) (append-nil (brings (seen_from false es) (expected_from 0 es) e))
 
 pub expected_append : (n : ℕ) (es fs : List Event) → expected_from n (es ++ fs) ≡ expected_from (expected_from n es) fs
 expected_append n [] fs = refl

@@ -39,7 +39,7 @@ use Rattle.monitor.specs.Calls.{lamp_of, no_monitor, watched, open_call, monitor
 use Rattle.monitor.proofs.Given.{event_checks, legal_is}
 use Rattle.monitor.specs.Promises.{open_accepted}
 use Rattle.live.specs.Prepare.{prepared_as, prepared_of}
-use Rattle.watching.specs.Filled.{expected_from, seen_from, filled_from, filled}
+use Rattle.watching.specs.Filled.{seen_from, filled_from, filled}
 
 -- a call that is accepted, and what it shows
 abbrev pub shows : ℕ → model.Monitor → Watched
@@ -86,7 +86,7 @@ module _ (p : Plant) (fair label next : List ℕ) (rule : Rule) where
   AllTaken es = TakenFrom false 0 es
 
   -- the events that are
-  abbrev taken_by : Outcome → Event → List Event → List Event → List Event
+  abbrev pub taken_by : Outcome → Event → List Event → List Event → List Event
   taken_by Accepted e taken other = e ∷ taken
   taken_by (Refused r) e taken other = other
 
@@ -95,7 +95,7 @@ module _ (p : Plant) (fair label next : List ℕ) (rule : Rule) where
   taken_ones seen expected (e ∷ es) = taken_by (event_outcome e p.props seen expected) e (taken_ones true (number_of e.num expected + 1) es) (taken_ones seen expected es)
 
   -- behind what an event brings, an event came
-  brought_seen : (known : List ℕ) (m : model.Monitor) (expected : ℕ) (e : Event) → (brought known m expected e).seen ≡ true
+  pub brought_seen : (known : List ℕ) (m : model.Monitor) (expected : ℕ) (e : Event) → (brought known m expected e).seen ≡ true
   unfolding model.step_of
   brought_seen known m expected e = ap (λ (x : model.Monitor). x.seen)
       (foldl-append (model.step_of T f known) m (replicate (missing_of m.seen expected (number_of e.num expected)) unseen) (event_of e ∷ []))
@@ -133,7 +133,7 @@ module _ (p : Plant) (fair label next : List ℕ) (rule : Rule) where
     -- ---- for any live set of the table and the rule
 
     module _ (known : Pairs) (fits : PairSet T f known.words) where
-      abbrev sets : Monitor → Bool
+      abbrev pub sets : Monitor → Bool
       sets m = pairs_ok T f known.words && monitor_fits p fair label next rule m
 
       in_order : (m : Monitor) → Held m → sets m ≡ true
@@ -191,80 +191,14 @@ module _ (p : Plant) (fair label next : List ℕ) (rule : Rule) where
     live_fits = subst (PairSet T f) (sym live_words) (live_set_lem T f given.table given.few)
 
     -- the model's step and monitor, with it
-    abbrev move : model.Monitor → meaning.Event → model.Monitor
+    abbrev pub move : model.Monitor → meaning.Event → model.Monitor
     move = model.step_of T f (live_set T f)
 
-    abbrev next_of : model.Monitor → ℕ → Event → model.Monitor
+    abbrev pub next_of : model.Monitor → ℕ → Event → model.Monitor
     next_of m expected e = brought (live_set T f) m expected e
 
-    abbrev first : model.Monitor
+    abbrev pub first : model.Monitor
     first = model.opening T f (live_set T f)
 
-    first_held : Held (monitor_of 0 first)
+    pub first_held : Held (monitor_of 0 first)
     first_held = record { sets = opening_sets T f given.table given.few (live_set T f) (live_set_lem T f given.table given.few); low = omega arith }
-
-    opened : open_call p fair label next rule live ≡ shows 0 first
-    opened = opens live live_fits ∙ ap (λ (l : List ℕ). shows 0 (model.opening T f l)) live_words
-
-    -- a call behind one whose monitor is the model's
-    steps : (w : Watched) (n : ℕ) (m : model.Monitor) → Held (monitor_of n m) → w.monitor ≡ monitor_of n m → (e : Event)
-        → step_call p fair label next rule live w.monitor e ≡ watched (event_outcome e p.props m.seen n) (monitor_of n m) (number_of e.num n + 1) (next_of m n e)
-    steps w n m held is e =
-        ap (λ (x : Monitor). step_call p fair label next rule live x e) is ∙ checks_pass live live_fits (monitor_of n m) held e
-        ∙ ap (λ (l : List ℕ). watched (event_outcome e p.props m.seen n) (monitor_of n m) (number_of e.num n + 1) (brought l m n e)) live_words
-
-    -- that is taken: its monitor is of the table and the rule again
-    next_held : (n : ℕ) (m : model.Monitor) → Held (monitor_of n m) → (e : Event) → Taken m.seen n e → Held (monitor_of (number_of e.num n + 1) (next_of m n e))
-    next_held n m held e taken = record {
-      sets = rw (← live_words) (brought_sets live live_fits m held.sets (brings m.seen n e));
-      low = omega (arith, taken.1.number);
-    }
-
-    -- and the list goes on behind what it brought
-    goes_on : (n : ℕ) (m : model.Monitor) (e : Event) (es : List Event)
-        → foldl move (next_of m n e) (filled_from (next_of m n e).seen (number_of e.num n + 1) es) ≡ foldl move m (filled_from m.seen n (e ∷ es))
-    goes_on n m e es =
-        ap (λ (s : Bool). foldl move (next_of m n e) (filled_from s (number_of e.num n + 1) es)) (brought_seen (live_set T f) m n e)
-        ∙ sym (foldl-append move m (brings m.seen n e) (filled_from true (number_of e.num n + 1) es))
-
-    -- WHATEVER EVENTS COME, the monitor is that of the model after those that were accepted, with the unseen ones put in
-    pub after_any : (es : List Event)
-        → (after es).monitor ≡ monitor_of (expected_from 0 (taken_ones false 0 es)) (model.run_of T f (live_set T f) (filled (taken_ones false 0 es)))
-    unfolding after model.run_of model.opening taken_ones
-    after_any es = go es (open_call p fair label next rule live) 0 first first_held (ap (λ (w : Watched). w.monitor) opened)
-      where
-        End : Watched → ℕ → model.Monitor → List Event → List Event → Type 0
-        End w n m es taken = (foldl (λ w e. step_call p fair label next rule live w.monitor e) w es).monitor ≡ monitor_of (expected_from n taken) (foldl move m (filled_from m.seen n taken))
-
-        go : (es : List Event) (w : Watched) (n : ℕ) (m : model.Monitor) → Held (monitor_of n m) → w.monitor ≡ monitor_of n m → End w n m es (taken_ones m.seen n es)
-        go [] w n m held is = is
-        go (e ∷ es) w n m held is = by (go es now) (event_outcome e p.props m.seen n) refl (steps w n m held is e)
-          where
-            now : Watched
-            now = step_call p fair label next rule live w.monitor e
-
-            by : ((k : ℕ) (x : model.Monitor) → Held (monitor_of k x) → now.monitor ≡ monitor_of k x → End now k x es (taken_ones x.seen k es)) → (o : Outcome) → event_outcome e p.props m.seen n ≡ o
-                → now ≡ watched o (monitor_of n m) (number_of e.num n + 1) (next_of m n e)
-                → End now n m es (taken_by o e (taken_ones true (number_of e.num n + 1) es) (taken_ones m.seen n es))
-            by rest Accepted g step =
-                let k = number_of e.num n + 1 in
-                let taken = taken_ones true k es in
-                subst (λ (s : Bool). (foldl (λ w e. step_call p fair label next rule live w.monitor e) now es).monitor ≡ monitor_of (expected_from k (taken_ones s k es)) (foldl move (next_of m n e) (filled_from (next_of m n e).seen k (taken_ones s k es))))
-                (brought_seen (live_set T f) m n e)
-                (rest k (next_of m n e) (next_held n m held e ((event_says e m.seen n).0 g)) (ap (λ (w : Watched). w.monitor) step))
-                ∙ ap (monitor_of (expected_from k taken)) (goes_on n m e taken)
-            by rest (Refused r) g step = rest n m held (ap (λ (w : Watched). w.monitor) step)
-
-    -- and after accepted ones the calls show its lamp
-    pub after_model : (es : List Event) → AllTaken es → after es ≡ shows (expected_from 0 es) (model.run_of T f (live_set T f) (filled es))
-    unfolding after model.run_of model.opening
-    after_model es taken = go es (open_call p fair label next rule live) 0 first taken first_held opened
-      where
-        go : (es : List Event) (w : Watched) (n : ℕ) (m : model.Monitor) → TakenFrom m.seen n es → Held (monitor_of n m) → w ≡ shows n m
-            → foldl (λ w e. step_call p fair label next rule live w.monitor e) w es ≡ shows (expected_from n es) (foldl move m (filled_from m.seen n es))
-        go [] w n m taken held is = is
-        go (e ∷ es) w n m (t, ts) held is =
-            let k = number_of e.num n + 1 in
-            go es (step_call p fair label next rule live w.monitor e) k (next_of m n e) (subst (λ (s : Bool). TakenFrom s k es) (sym (brought_seen (live_set T f) m n e)) ts) (next_held n m held e t)
-            (steps w n m held (ap (λ (w : Watched). w.monitor) is) e ∙ ap (λ (o : Outcome). watched o (monitor_of n m) k (next_of m n e)) ((event_says e m.seen n).1 t))
-            ∙ ap (shows (expected_from k es)) (goes_on n m e es)

@@ -7,7 +7,7 @@ use Rattle.truth.specs.declared.tables.RestartTables.{RestartTables}
 use Rattle.truth.specs.declared.tables.Tables.{Tables}
 use Rattle.truth.specs.Tables.{move_tables_in, restart_tables_in, tables_of}
 use Rattle.truth.specs.Ready.{Ready}
-use Rattle.truth_laws.specs.TablesRight.{few_parts}
+use Rattle.truth_laws.proofs.TablesRight.{few_parts}
 use Rattle.leads.specs.Halves.{leaving_of, entering_of}
 use Rattle.ways.specs.declared.MoveWays.{MoveWays}
 use Rattle.ways.specs.declared.RestartWays.{RestartWays}

@@ -40,7 +40,7 @@ pub struct RestartWays {
 
 // The one maker, for prepare, witness and whatever takes many steps. A single step asks for less: `move_ways_of` or `restart_ways_of`, and an
 // opening for `truth::tables::holds_of`.
-#[tactic(auto, using(truth_laws::specs::TablesRight::few_parts, crate::specs::Ways::ways_whole))]
+#[tactic(auto, using(truth_laws::proofs::TablesRight::few_parts, crate::specs::Ways::ways_whole))]
 pub fn ways_of(label: &[u16], rule: Rule) -> Ways
     requires { Ready label.now rule }
     ensures { result ≡ ways_of label.now rule }
@@ -82,7 +82,7 @@ fn move_ways_from(tables: MoveTables) -> MoveWays
 }
 
 // What a single move works out: with what it has no use for, a step would take a tenth more.
-#[tactic(auto, using(truth_laws::specs::TablesRight::few_parts, crate::specs::Ways::move_ways_whole))]
+#[tactic(auto, using(truth_laws::proofs::TablesRight::few_parts, crate::specs::Ways::move_ways_whole))]
 pub fn move_ways_of(label: &[u16], rule: Rule) -> MoveWays
     requires { Ready label.now rule }
     ensures { result ≡ move_ways_in (ways_of label.now rule) }
@@ -92,7 +92,7 @@ pub fn move_ways_of(label: &[u16], rule: Rule) -> MoveWays
 }
 
 // What a single restart works out.
-#[tactic(auto, using(truth_laws::specs::TablesRight::few_parts, crate::specs::Ways::restart_ways_whole))]
+#[tactic(auto, using(truth_laws::proofs::TablesRight::few_parts, crate::specs::Ways::restart_ways_whole))]
 pub fn restart_ways_of(label: &[u16], rule: Rule) -> RestartWays
     requires { Ready label.now rule }
     ensures { result ≡ restart_ways_in (ways_of label.now rule) }

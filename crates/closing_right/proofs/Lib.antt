@@ -1,0 +1,3 @@
+pub mod Lines
+pub mod Presumes
+pub mod FromDay

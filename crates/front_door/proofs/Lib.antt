@@ -1,0 +1,5 @@
+pub mod Lamps
+pub mod FromTexts
+pub mod OneOutput
+pub mod FromLog
+pub mod AtEnd

@@ -1,0 +1,3 @@
+pub mod AnyState
+pub mod Asked
+pub mod OneAnswer

@@ -1,0 +1,3 @@
+pub mod Exactly
+pub mod Faults
+pub mod FromReport
