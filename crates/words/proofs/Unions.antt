@@ -9,7 +9,6 @@ use Rattle.words.specs.Laws.{digit_of_lem, bit_low, bit_half}
 use Rattle.words.specs.Below.{count_below}
 use Rattle.words.specs.Folds.{count_same, count_first}
 
-
 -- the ones-count of a word counts its members
 pub ones_count : (n x : ℕ) → x < 2 ^ n → ones x ≡ count_below n (bit x)
 unfolding count_below ones ones_in
