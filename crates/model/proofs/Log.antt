@@ -1,56 +1,25 @@
--- Whole logs: the sets, the verdict and the states left after any list of events mean what they should, and the verdict only narrows
--- with one more event, a better sensor or a smaller table.
-use Rattle.std.specs.Prelude.{ℕ, suc, ◌≡◌, refl, Bool, true, false, cond, not, length}
-use Rattle.std.proofs.Common.{ap, subst}
+-- More of specs/Log. Whole logs: the sets, the verdict and the states left after any list of events mean what they should, and the verdict only narrows
+use Rattle.std.specs.Prelude.{ℕ, ◌≡◌, Bool, true, false, not, length}
+use Rattle.std.proofs.Common.{subst}
 use Rattle.std.proofs.Math.Bool.{So}
-use mathlib.Core.List.{List, [], ◌∷◌, ◌++◌, foldl, Forall₂}
+use mathlib.Core.List.{List, [], ◌∷◌, ◌++◌}
 use Rattle.words.specs.Below.{count_below}
 use Rattle.pairs.specs.Sets.{inside, empty_of}
 use Rattle.meaning.specs.Says.{Says}
 use Rattle.meaning.specs.Formula.{Formula}
 use Rattle.meaning.specs.Run.{Plant, Lasso}
-use Rattle.meaning.specs.Event.{Seen, Event, History, none, more, again, now, grow, since}
+use Rattle.meaning.specs.Event.{Event, History, more, now, grow, since}
 use Rattle.meaning.specs.Verdict.{Agreeing, Chosen, At, Possible, CanBe, Right}
 use Rattle.meaning.specs.Limits.{AcceptedTable, Small}
 use Rattle.meaning.proofs.Sense.{since_grow, since_more}
 use Rattle.theory.specs.Join.{walk_then}
-use Rattle.theory.specs.Narrow.{Narrower, verdict_narrows, Finer, FinerHistory, Smaller, finer_fewer, more_fewer, grow_agrees, smaller_fewer}
-use Rattle.model.specs.LiveSet.{live_set}
-use Rattle.model.specs.Monitor.{Monitor, side, run_of, verdict, left}
+use Rattle.theory.specs.Narrow.{Narrower, verdict_narrows, Smaller, finer_fewer, more_fewer, grow_agrees, smaller_fewer}
+use Rattle.model.specs.Monitor.{side, verdict, left}
 use Rattle.model.proofs.Means.{Means, means_run}
 use Rattle.model.proofs.Shown.{occupied_says, verdict_means, left_means}
-use Rattle.model.proofs.Witness.{Witness, witness_joined}
-
--- a second log of the same restarts, each event of which sees no less than the first log's, and nothing otherwise
-abbrev pub FinerLog : List Event → List Event → Type 0
-FinerLog = Forall₂ (λ e e'. (e.new ≡ e'.new) × Finer e.seen e'.seen)
-
-snoc₂ : {es es' : List Seen} (e e' : Seen) → Forall₂ Finer es es' → Finer e e' → Forall₂ Finer (es ++ e ∷ []) (es' ++ e' ∷ [])
-snoc₂ e e' Forall₂.nil k = Forall₂.cons k Forall₂.nil
-snoc₂ e e' (Forall₂.cons h t) k = Forall₂.cons h (snoc₂ e e' t k)
-
--- a finer list is as long
-as_long : {es es' : List Seen} → Forall₂ Finer es es' → length es ≡ length es'
-as_long Forall₂.nil = refl
-as_long (Forall₂.cons h t) = ap suc (as_long t)
-
--- so what the logs tell is finer too
-pub since_finer : (es es' : List Event) → FinerLog es es' → FinerHistory (since es) (since es')
-unfolding since grow
-since_finer es es' k = go k none none (Forall₂.nil, refl)
-  where
-    one : (h h' : History) (e e' : Seen) (new : Bool) → FinerHistory h h' → Finer e e'
-        → FinerHistory (cond new (again h e) (more h e)) (cond new (again h' e') (more h' e'))
-    one h h' e e' true t k = (snoc₂ e e' t.0 k, as_long t.0)
-    one h h' e e' false t k = (snoc₂ e e' t.0 k, t.1)
-
-    go : {es es' : List Event} → FinerLog es es' → (h h' : History) → FinerHistory h h' → FinerHistory (foldl grow h es) (foldl grow h' es')
-    go Forall₂.nil h h' t = t
-    go (Forall₂.cons {a = e} {b = e'} k ks) h h' t = go ks (grow h e) (grow h' e') (rw (← k.0) (one h h' e.seen e'.seen e.new t k.1))
-
--- the monitor, with the live set that preparing works out, after a list of events
-abbrev pub watched : Plant → Formula → List Event → Monitor
-watched T f es = run_of T f (live_set T f) es
+use Rattle.model.specs.Witness.{Witness}
+use Rattle.model.proofs.Witness.{witness_joined}
+use Rattle.model.specs.Log.{FinerLog, since_finer, watched}
 
 -- fewer runs agree, so the verdict narrows
 fewer_narrows : (T T' : Plant) (f : Formula) (es es' : List Event) → AcceptedTable T → AcceptedTable T' → Small f

@@ -1,18 +1,16 @@
--- Witnesses: a fair lasso that shows a pair of a set to be live, and what it is behind the walk that led there.
-use Rattle.std.specs.Prelude.{ℕ, ◌≤◌, ◌<◌, ◌≡◌, Bool, true, false, not, List, length}
+-- More of specs/Witness. Witnesses: a fair lasso that shows a pair of a set to be live, and what it is behind the walk that led there.
+use Rattle.std.specs.Prelude.{ℕ, ◌≤◌, ◌<◌, ◌≡◌, Bool, true, false, List, length}
 use Rattle.std.proofs.Common.{arith}
 use Rattle.std.proofs.Math.Bool.{So}
 use Rattle.std.proofs.lemmas.List.{length-map}
-use Rattle.pairs.specs.Sets.{inside, empty_of, occupied, occupant}
-use Rattle.graphs.specs.Sets.{Nodes, ◌⊆◌}
-use Rattle.graphs.specs.Walk.{Edges, walk_widen}
-use Rattle.graphs.proofs.Lasso.{Ring}
+use Rattle.pairs.specs.Sets.{inside, occupied, occupant}
+use Rattle.graphs.specs.Lasso.{Ring}
 use Rattle.std.proofs.lemmas.Bool.{not-true}
 use Rattle.meaning.specs.Says.{Says}
 use Rattle.meaning.specs.Formula.{Formula}
-use Rattle.meaning.specs.Run.{Plant, Lasso, FairLasso}
+use Rattle.meaning.specs.Run.{Plant, Lasso}
 use Rattle.meaning.specs.Event.{History, now}
-use Rattle.meaning.specs.Pair.{PairAt, Live}
+use Rattle.meaning.specs.Pair.{Live}
 use Rattle.meaning.specs.Verdict.{Chosen}
 use Rattle.meaning.specs.Limits.{AcceptedTable, Small, most_stem, most_loop}
 use Rattle.theory.specs.Join.{walk_then}
@@ -26,27 +24,7 @@ use Rattle.model.specs.Sets.{nodes_of, nodes_valid}
 use Rattle.model.proofs.Lives.{live_set_lem, live_says}
 use Rattle.model.specs.Monitor.{Monitor, side}
 use Rattle.model.proofs.Means.{Means, Begun}
-
--- what the call writes: a lasso within the bounds, by which some pair of the set is live
-pub record Witness (T : Plant) (f : Formula) (set : List ℕ) (L : Lasso) : Type 0 where
-  pub state : ℕ
-  pub values : ℕ
-  pub held : So (inside set state values)
-  pub walk : FairLasso T L
-  pub pair : PairAt T f L 0 state values
-  pub stem : length L.stem ≤ most_stem
-  pub loop : length L.loop ≤ most_loop
-
--- whether the set has a live pair: where it has none, the call refuses with 13
-unfoldable pub has_live : Plant → Formula → List ℕ → Bool
-has_live T f set = not (empty_of (meet_of set (live_set T f)))
-
-lasso_widen : {edge : Edges} {goals : List Nodes} {Y Z : Nodes} {x : ℕ} {xs ys : List ℕ} → Y ⊆ Z → Ring edge goals Y x xs ys → Ring edge goals Z x xs ys
-lasso_widen h l = record {
-  knot = l.knot;
-  comes = walk_widen h l.comes;
-  turns = record { walks = walk_widen h l.turns.walks; moves = l.turns.moves; meets = l.turns.meets };
-}
+use Rattle.model.specs.Witness.{Witness, has_live, lasso_widen}
 
 module _ (T : Plant) (f : Formula) (A : AcceptedTable T) (small : Small f) where
   -- then there is a witness, and not otherwise

@@ -23,8 +23,10 @@ use Rattle.model.specs.LiveSet.{meet_of, live_set}
 use Rattle.model.proofs.Lives.{live_says}
 use Rattle.model.specs.Reaching.{meet_says}
 use Rattle.model.specs.Monitor as model
-use Rattle.model.proofs.Log as log
-use Rattle.model.proofs.Witness.{has_live, witness_says}
+use Rattle.model.specs.Log as log
+use Rattle.model.proofs.Log as log_laws
+use Rattle.model.specs.Witness.{has_live}
+use Rattle.model.proofs.Witness.{witness_says}
 use Rattle.answers.specs.declared.Kind.TheVariants.{NoPair}
 use Rattle.answers.specs.declared.Outcome.{Outcome}
 use Rattle.answers.specs.declared.Outcome.TheVariants.{Accepted, Refused}
@@ -84,14 +86,14 @@ module _ (p : Plant) (fair label next : List ℕ) (rule : Rule) (given : Input p
     seen_live b = (
       λ e.
           let (L, w) = (witness_says T f given.table given.few (model.side seen b)).0 e in
-          let (walk, _, c) = log.log_witness T f given.table given.few (filled es) b L w in
+          let (walk, _, c) = log_laws.log_witness T f given.table given.few (filled es) b L w in
           (walk_then walk L, c),
       λ (L, c).
           let s = state_at L (now h) in
           let v = values_at T f L (now h) in
           let q = pair_of T f L c.run.walk (now h) in
           let a : At T f b h s v = record { lasso = L; chosen = c; pair = q } in
-          let i = (log.log_sets T f given.table given.few (filled es) b s v).1 a in
+          let i = (log_laws.log_sets T f given.table given.few (filled es) b s v).1 a in
           let l = (live_says T f given.table given.few s v).1 (pair_live T f L (now h) s v c.run.walk q) in
           let low : v < 64 = (let k = q.small in let n = valuations_few f given.few in omega arith) in
           rw (occupied (meet_of (model.side seen b) (live_set T f)) s v low ((meet_says (model.side seen b) (live_set T f) s v).1 (low, (i, l)))),

@@ -17,7 +17,8 @@ use Rattle.words.specs.Over.{over}
 use Rattle.theory.specs.Join.{walk_then}
 use Rattle.model.specs.Sets.{PairSet}
 use Rattle.model.specs.Monitor as model
-use Rattle.model.proofs.Log as log
+use Rattle.model.specs.Log as log
+use Rattle.model.proofs.Log as log_laws
 use Rattle.answers.specs.declared.Kind.TheVariants.{Room}
 use Rattle.answers.specs.declared.Outcome.{Outcome}
 use Rattle.answers.specs.declared.Outcome.TheVariants.{Accepted}
@@ -79,7 +80,7 @@ module _ (p : Plant) (fair label next : List ℕ) (rule : Rule) (given : Input p
     is_seen = ap (λ (w : Watched). model_of w.monitor) (after_model p fair label next rule given es taken)
 
     sets : (b : Bool) → PairSet T f (model.side (model_of m) b)
-    sets b = subst (λ (x : model.Monitor). PairSet T f (model.side x b)) (sym is_seen) ((log.log_means T f given.table given.few (filled es)).sets b)
+    sets b = subst (λ (x : model.Monitor). PairSet T f (model.side x b)) (sym is_seen) ((log_laws.log_means T f given.table given.few (filled es)).sets b)
 
     -- numbers are left, or used up
     pub low : m.expected ≤ 2 ^ 32

@@ -16,8 +16,9 @@ use Rattle.theory.specs.Join.{walk_then}
 use Rattle.model.proofs.Lives.{live_says}
 use Rattle.model.specs.Monitor as model
 use Rattle.model.proofs.Shown.{occurs_says}
-use Rattle.model.proofs.Log as log
-use Rattle.model.proofs.Witness.{Witness}
+use Rattle.model.specs.Log as log
+use Rattle.model.proofs.Log as log_laws
+use Rattle.model.specs.Witness.{Witness}
 use Rattle.answers.specs.declared.Answer.{Answer}
 use Rattle.answers.specs.declared.Answer.TheVariants.{Shown, Refused}
 use Rattle.answers.specs.Paper.{verdict, paper, number_of, kind_number}
@@ -98,12 +99,12 @@ module _ (p : Plant) (fair label next : List ℕ) (rule : Rule) (given : Input p
   narrows_on : (xs ys : List meaning.Event) → Calm ys → Narrower (number xs) (number (xs ++ ys))
   narrows_on xs [] calm = rw append-nil (record { from_true = inl; from_false = inl; from_out = λ e. e })
   narrows_on xs (y ∷ ys) (c, cs) =
-      narrower_on (log.log_narrows T f given.table given.few xs y c) (subst (λ (l : List meaning.Event). Narrower (number (xs ++ y ∷ [])) (number l)) (one_on xs y ys) (narrows_on (xs ++ y ∷ []) ys cs))
+      narrower_on (log_laws.log_narrows T f given.table given.few xs y c) (subst (λ (l : List meaning.Event). Narrower (number (xs ++ y ∷ [])) (number l)) (one_on xs y ys) (narrows_on (xs ++ y ∷ []) ys cs))
 
   out_on : (xs ys : List meaning.Event) → number xs ≡ 3 → number (xs ++ ys) ≡ 3
   out_on xs [] out = rw append-nil out
   out_on xs (y ∷ ys) out =
-      subst (λ (l : List meaning.Event). number l ≡ 3) (one_on xs y ys) (out_on (xs ++ y ∷ []) ys (log.log_out T f given.table given.few xs y out))
+      subst (λ (l : List meaning.Event). number l ≡ 3) (one_on xs y ys) (out_on (xs ++ y ∷ []) ys (log_laws.log_out T f given.table given.few xs y out))
 
   module _ (es : List Event) (legal : AllTaken p fair label next rule es) where
     -- what the log tells: all events, with the unseen ones put in, and the last restart's position
@@ -112,7 +113,7 @@ module _ (p : Plant) (fair label next : List ℕ) (rule : Rule) (given : Input p
 
     -- a pair is in a set of the monitor exactly where some run of that set's kind agrees with the events and is at this pair now
     pub sets_exactly : (b : Bool) (s v : ℕ) → Says (inside (side_of (watching.after p fair label next rule es).monitor b) s v) (At T f b h s v)
-    sets_exactly b s v = rw (after_model p fair label next rule given es legal) (log.log_sets T f given.table given.few (filled es) b s v)
+    sets_exactly b s v = rw (after_model p fair label next rule given es legal) (log_laws.log_sets T f given.table given.few (filled es) b s v)
 
     -- and the lamp says what the runs say
     pub lamp_right : Lit T f h (watching.after p fair label next rule es).answer
@@ -120,21 +121,21 @@ module _ (p : Plant) (fair label next : List ℕ) (rule : Rule) (given : Input p
       number = model.verdict (log.watched T f (filled es));
       left = model.left (log.watched T f (filled es));
       shown = lamp_paper (log.watched T f (filled es));
-      right = log.log_right T f given.table given.few (filled es);
-      counts = (can, can_says, log.log_left T f given.table given.few (filled es) can can_says);
+      right = log_laws.log_right T f given.table given.few (filled es);
+      counts = (can, can_says, log_laws.log_left T f given.table given.few (filled es) can can_says);
     })
       where
         can : ℕ → Bool
         can = occurs_in (log.watched T f (filled es)).keeps (log.watched T f (filled es)).breaks
 
         can_says : (s : ℕ) → Says (can s) (CanBe T h s)
-        can_says = occurs_says T f given.table given.few (log.watched T f (filled es)) h (log.log_means T f given.table given.few (filled es))
+        can_says = occurs_says T f given.table given.few (log.watched T f (filled es)) h (log_laws.log_means T f given.table given.few (filled es))
 
     -- how a witness that is asked for now goes on: some walk that agrees with the events, joined with it, is a run of the asked kind, judged at
     -- the last restart
     pub witness_goes_on : (b : Bool) (L : Lasso) → Witness T f (side_of (watching.after p fair label next rule es).monitor b) L
         → (walk : List ℕ) × (length walk ≡ now h) × Chosen T f b h (walk_then walk L)
-    witness_goes_on b L w = log.log_witness T f given.table given.few (filled es) b L
+    witness_goes_on b L w = log_laws.log_witness T f given.table given.few (filled es) b L
         (subst (λ m. Witness T f (side_of m.monitor b) L) (after_model p fair label next rule given es legal) w)
 
     -- without a restart true stays true or turns out-of-model, false likewise, and out-of-model stays

@@ -22,7 +22,8 @@ use Rattle.words.specs.Laws.{bit_zero}
 use Rattle.pairs.specs.Sets.{inside, empty_of, occurs_in}
 use Rattle.theory.specs.Verdict.{judged}
 use Rattle.model.specs.Monitor.{side, verdict, left}
-use Rattle.model.proofs.Log.{watched, log_means, log_sets, log_left}
+use Rattle.model.specs.Log.{watched}
+use Rattle.model.proofs.Log.{log_means, log_sets, log_left}
 use Rattle.model.proofs.Shown.{occupied_says, occurs_says}
 use Rattle.event_numbers.specs.Numbers.{unseen}
 

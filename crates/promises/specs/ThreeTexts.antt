@@ -11,7 +11,7 @@ use Rattle.meaning.specs.Run as run
 use Rattle.meaning.specs.Event as meaning
 use Rattle.text.specs.Number.{width_of}
 use Rattle.model.specs.Monitor as model
-use Rattle.model.proofs.Log as model-log
+use Rattle.model.specs.Log as model-log
 use Rattle.answers.specs.declared.Outcome.{Outcome}
 use Rattle.answers.specs.declared.Outcome.TheVariants.{Accepted, Refused}
 use Rattle.answers.specs.Paper.{Paper, verdict, refusal, paper}

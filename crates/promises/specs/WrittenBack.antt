@@ -10,8 +10,9 @@ use Rattle.plant.specs.Read.{table_read}
 use Rattle.plant_writer.specs.declared.Length.{Length}
 use Rattle.plant_writer.specs.declared.Wrote.TheVariants.{Text}
 use Rattle.plant_writer.specs.Writing.{write_answer, write_buffer}
-use Rattle.plant_writer.proofs.Lower.{lower}
-use Rattle.plant_writer.proofs.Promises.{SameTable, written_read, same_table, accepted_back}
+use Rattle.plant_writer.specs.Lower.{lower}
+use Rattle.plant_writer.specs.Promises.{SameTable, written_read, same_table}
+use Rattle.plant_writer.proofs.Promises.{accepted_back}
 use Rattle.plant.proofs.read_table.Reads as read_table
 use Rattle.plant_writer.proofs.write_table.Reads as write_table
 

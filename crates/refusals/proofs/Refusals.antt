@@ -26,7 +26,7 @@ use Rattle.model.specs.Checks.{width, pairs_ok, pairs_says, legal_says}
 use Rattle.model.specs.LiveSet.{meet_of, live_set}
 use Rattle.model.proofs.Lives.{live_says}
 use Rattle.model.specs.Reaching.{meet_says}
-use Rattle.model.proofs.Witness.{has_live}
+use Rattle.model.specs.Witness.{has_live}
 use Rattle.answers.specs.declared.Kind.{Kind}
 use Rattle.answers.specs.declared.Kind.TheVariants.{Counts, Bits, Value, IllegalEvent, Room, NoPair, Number}
 use Rattle.answers.specs.declared.Outcome.{Outcome}

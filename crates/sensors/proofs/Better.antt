@@ -11,7 +11,7 @@ use Rattle.meaning.specs.Event.{History, since}
 use Rattle.theory.specs.Narrow.{Narrower}
 use Rattle.model.specs.LiveSet.{live_set}
 use Rattle.model.specs.Monitor as model
-use Rattle.model.proofs.Log.{FinerLog, since_finer}
+use Rattle.model.specs.Log.{FinerLog, since_finer}
 use Rattle.answers.specs.declared.Verdict.{Verdict}
 use Rattle.answers.specs.declared.Verdict.TheVariants.{Inconclusive}
 use Rattle.answers.specs.declared.Lamp.{Lamp}

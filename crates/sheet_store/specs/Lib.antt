@@ -3,3 +3,4 @@ pub mod Paper
 pub mod Laws
 pub mod Shelf
 pub mod Promises
+pub mod Nine

@@ -4,7 +4,7 @@ use Rattle.std.proofs.Common.{mod-lt, sym, ap, ◌∙◌, ⊎_elim}
 use Rattle.std.proofs.Math.Bool.{So}
 use Rattle.std.proofs.lemmas.List.{length-map}
 use Rattle.meaning.specs.Bit.{bit}
-use Rattle.graphs.proofs.Lasso.{Ring}
+use Rattle.graphs.specs.Lasso.{Ring}
 use Rattle.meaning.specs.Formula.{Formula}
 use Rattle.meaning.specs.Run.{Plant, Lasso, FairLasso, state_at, label_of, next_of, labels_along}
 use Rattle.meaning.specs.Pair.{PairAt, Live}

@@ -8,7 +8,7 @@ use Rattle.graphs.specs.Sets.{Nodes, only}
 use Rattle.graphs.specs.Walk.{Edges, on, done, last_in, walk_on, walk_widen}
 use Rattle.graphs.specs.Fair.{Fair}
 use Rattle.graphs.specs.Rank.{Nearest}
-use Rattle.graphs.proofs.Lasso.{Tour, Ring, Trail, trail_start, trail_on, trail_end}
+use Rattle.graphs.specs.Lasso.{Tour, Ring, Trail, trail_start, trail_on, trail_end}
 use Rattle.words.specs.Over
 use Rattle.walk.specs.Rests.{Resting}
 use Rattle.walk.specs.Knots.{Knotted, knotted_in}

@@ -21,7 +21,7 @@ use Rattle.theory.specs.Node.{node, state_of, values_of, in_set, settled_at, val
 use Rattle.theory.proofs.Node.{valid_says}
 use Rattle.graphs.specs.Core.{LiveNode, Keeps, live_stays}
 use Rattle.graphs.specs.Fair.{Fair}
-use Rattle.graphs.proofs.Lasso.{Ring}
+use Rattle.graphs.specs.Lasso.{Ring}
 use Rattle.std.proofs.lemmas.Bool.{not-true}
 use Rattle.meaning.specs.Step.{next_part, table}
 use Rattle.theory.specs.Move.{settled}
@@ -35,7 +35,8 @@ use Rattle.model.specs.Reaching.{meet_says}
 use Rattle.model.specs.Moves.{from, to, leads_says}
 use Rattle.model.specs.Tables.{Rows}
 use Rattle.model.proofs.Lives.{live_set_lem, live_says}
-use Rattle.model.proofs.Witness.{Witness, has_live, ring_witness}
+use Rattle.model.specs.Witness.{Witness, has_live}
+use Rattle.model.proofs.Witness.{ring_witness}
 use Rattle.leads.specs.Halves.{from_in, to_in}
 use Rattle.sweeps.specs.Rounds.{every_of, settled_in, goal_of}
 use Rattle.nearest.specs.Graph.{moves_of, move_of_lem, of_move}

@@ -14,7 +14,7 @@ use Rattle.model.specs.Monitor as model
 use Rattle.model.specs.Sets.{nodes_of}
 use Rattle.model.specs.LiveSet.{meet_of, live_set}
 use Rattle.model.proofs.Lives.{live_set_lem}
-use Rattle.model.proofs.Witness.{has_live}
+use Rattle.model.specs.Witness.{has_live}
 use Rattle.sweeps.specs.Rounds.{lasting_of}
 use Rattle.answers.specs.declared.Kind.TheVariants.{Value, Room, NoPair}
 use Rattle.answers.specs.declared.Lamp.{Lamp}

@@ -4,7 +4,7 @@ use Rattle.meaning.specs.Formula.{Formula}
 use Rattle.meaning.specs.Run as run
 use Rattle.meaning.specs.Limits.{witness_room}
 use Rattle.model.specs.Monitor as model
-use Rattle.model.proofs.Witness.{has_live}
+use Rattle.model.specs.Witness.{has_live}
 use Rattle.answers.specs.declared.Kind.TheVariants.{Room, NoPair}
 use Rattle.answers.specs.declared.Outcome.{Outcome}
 use Rattle.answers.specs.declared.Outcome.TheVariants.{Accepted, Refused}

@@ -7,7 +7,7 @@ use Rattle.meaning.specs.Limits.{AcceptedTable, Small}
 use Rattle.graphs.specs.Fair.{Fair}
 use Rattle.model.specs.Sets.{nodes_of}
 use Rattle.model.specs.LiveSet.{live_set}
-use Rattle.model.proofs.Witness.{has_live}
+use Rattle.model.specs.Witness.{has_live}
 use Rattle.leads.specs.Halves.{leaving_of, entering_of}
 use Rattle.leads.specs.HalvesRight.{from_halves, to_halves}
 use Rattle.truth.specs.declared.tables.Tables.{Tables}

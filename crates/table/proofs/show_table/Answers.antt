@@ -1,6 +1,6 @@
 -- `show_table`: a text that was written fits its bytes.
 use Rattle.std.proofs.Common.{sym, ◌∙◌, arith, take, replicate}
-use Rattle.plant_writer.proofs.Promises.{written}
+use Rattle.plant_writer.specs.Promises.{written}
 use Rattle.table.proofs.show_table.Goals as goal
 
 pub show_text-requires : goal.show_text-requires
