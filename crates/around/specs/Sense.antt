@@ -19,7 +19,7 @@ pub labels : map (around (5 ∷ 6 ∷ 7 ∷ []) 1) (0 ∷ 1 ∷ 2 ∷ 3 ∷ 4 �
 unfolding place
 labels = refl
 
--- a run by its states: the same lasso as in meaning/specs/Sense
+-- a run by its states: the same lasso as in meaning/proofs/Sense
 pub states : map (state_at (lasso_of (5 ∷ 6 ∷ 7 ∷ []) 1)) (0 ∷ 1 ∷ 2 ∷ 3 ∷ 4 ∷ []) ≡ 5 ∷ 6 ∷ 7 ∷ 6 ∷ 7 ∷ []
 unfolding state_at
 states = refl

@@ -1,5 +1,5 @@
 -- No call of a day has a choice: two results that its contract allows are equal, and so are the bytes that they leave in what was lent. And none asks anything of its arguments.
--- Said of the contracts themselves, as the kit reads them (promises/specs/OneAnswer has the other calls).
+-- Said of the contracts themselves, as the kit reads them (promises/proofs/OneAnswer has the other calls).
 use Rattle.std.specs.Prelude.{◌≡◌}
 use Rattle.std.proofs.Common.{sym, ◌∙◌}
 use Rattle.day_sheet.proofs.note.Reads as note

@@ -1,4 +1,4 @@
--- Two answers of write_table, of print_rule, or of witness, that stand for the same on paper are equal, as those of the other calls are (answers/specs/Promises).
+-- Two answers of write_table, of print_rule, or of witness, that stand for the same on paper are equal, as those of the other calls are (answers/proofs/Promises).
 use Rattle.std.specs.Prelude.{◌≡◌}
 use Rattle.std.proofs.Common.{sym, ap}
 use Rattle.answers.proofs.Promises.{one_refusal}

@@ -1,5 +1,5 @@
 -- The two calls on scraps have no choice: two results that a contract allows are equal, and so are the bytes left in what was lent. Said of the contracts themselves, as in
--- promises/specs/OneAnswer: `Learnt` is what the kit reads from the `ensures` of a call, x are its arguments, r its result, and u the lent things at exit.
+-- promises/proofs/OneAnswer: `Learnt` is what the kit reads from the `ensures` of a call, x are its arguments, r its result, and u the lent things at exit.
 use Rattle.std.specs.Prelude.{◌≡◌}
 use Rattle.std.proofs.Common.{sym, ◌∙◌}
 use Rattle.scraps.proofs.take.Reads as take

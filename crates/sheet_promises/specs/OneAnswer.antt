@@ -1,5 +1,5 @@
 -- No call on sheets has a choice: two results that its contract allows are equal, and so are the bytes and words that they leave in what was lent. And none asks anything of its arguments.
--- Said of the contracts themselves, as promises/specs/OneAnswer says it of the other calls.
+-- Said of the contracts themselves, as promises/proofs/OneAnswer says it of the other calls.
 use Rattle.std.specs.Prelude.{ℕ, ◌≡◌, refl, List}
 use Rattle.std.proofs.Common.{sym, ◌∙◌}
 use base.Logic.{emp}
