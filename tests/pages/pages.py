@@ -7,7 +7,7 @@ A row of its table of the paper's sentences (what the paper says, definition, th
 names and then the files, and each name is defined in one of these, in specs or in proofs. Each edit of the fourth, as `crate/edit`, is there, and where none is
 named stands why.
 The edits of any other table whose last heading says so are there too. The gate tries all of them.
-A name `Type::NAME` or `crate::name` on any page but the landings, which tell of former times, is one of the sources.
+A name `Type::NAME` or `crate::name` on any page but the landings and the port, which tell of former times, is one of the sources.
 """
 import glob
 import os
@@ -151,7 +151,7 @@ SOURCES = {path: read(path) for path in glob.glob('crates/*/src/*.rt')}
 if not any(table[0] == SENTENCES for table in tables('docs/PROMISES.md')):
     sys.exit('pages: docs/PROMISES.md has no table of sentences')
 wrong = [w for page in PAGES if os.path.exists(page) for w in links(page)] + list(rows('docs/PROMISES.md'))
-wrong += [w for page in PAGES if os.path.exists(page) and page != 'docs/LANDINGS.md' for w in qualified(page)]
+wrong += [w for page in PAGES if os.path.exists(page) and page not in ('docs/LANDINGS.md', 'docs/PORT.md') for w in qualified(page)]
 if wrong:
     sys.exit('\n'.join(['pages: what the pages name is not in the tree'] + wrong))
 print('pages: every link leads somewhere, every name stands where it is said to, and every edit is there')
