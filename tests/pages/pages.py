@@ -4,8 +4,7 @@ A link `[words](target)`: the target is a file, a folder, or a heading of a page
 that file defines the name.
 A row of docs/PROMISES.md whose last cell names files, as `plant/specs/Promises; text/specs`: each `name` in the cell before it is defined in one of them.
 A row of its table of the paper's sentences (what the paper says, definition, theorem, edits): in the second and the third cell each part up to a `;` has its
-names and then the files, and each name is defined in one of these, in specs or in proofs. Each edit of the fourth, as `crate/edit`, is there, and where none is
-named stands why.
+names and then the files, and each name is defined in one of these. Each edit of the fourth, as `crate/edit`, is there, and where none is named stands why.
 The edits of any other table whose last heading says so are there too. The gate tries all of them.
 A name `Type::NAME` or `crate::name` on any page but the landings and the port, which tell of former times, is one of the sources.
 """
@@ -58,14 +57,11 @@ def links(page):
 
 
 def places(cell):
-    """The files and folders that a cell names: `plant/specs/Promises`, `transcript/specs`, `course/src`. A theorem may stand in specs or in proofs, so what a cell
-    names of the one is looked for in the other too."""
+    """The files and folders that a cell names: `plant/specs/Promises`, `transcript/specs`, `course/src`."""
     found = []
-    for crate, folder, rest in re.findall(r'\b([a-z_]+)/(specs|src|proofs)((?:/\w+)*)', cell):
-        folders = [folder] + [other for other in ('specs', 'proofs') if folder != 'src' and other != folder]
-        paths = ['crates/%s/%s%s' % (crate, f, rest) for f in folders]
-        paths = [path if os.path.isdir(path) else path + '.antt' for path in paths]
-        found += [path for path in paths if os.path.exists(path)] or paths[:1]
+    for crate, rest in re.findall(r'\b([a-z_]+)/((?:specs|src|proofs)(?:/\w+)*)', cell):
+        path = 'crates/%s/%s' % (crate, rest)
+        found.append(path if os.path.isdir(path) else path + '.antt')
     return found
 
 

@@ -14,7 +14,7 @@ use Rattle.front_door.specs.WholeLog.{SaysBare}
 use Rattle.scraps.specs.Calls.{longest}
 use Rattle.cuttings.specs.Scraps.{Scrap, text}
 use Rattle.scraps_right.specs.Claims.{Roomy, one_more, said_by_all, end_of_all}
-use Rattle.scraps_right.proofs.FromTexts.{Heeds}
+use Rattle.scraps_right.specs.ScrapsRight.{Heeds}
 use Rattle.box_calls.specs.Calls.{box_opened}
 use Rattle.box_radio.specs.Radios.{took_in, end_in, box_taken}
 

@@ -9,7 +9,8 @@ use Rattle.text.specs.Place.{Fills, RefusedAt, fills_small}
 use Rattle.text.specs.Lines.{line_start, lines, all_begun}
 use Rattle.text.specs.LinesRead.{fills_fit}
 use Rattle.text.specs.Choice.{guess_first}
-use Rattle.text.proofs.LinesChoice.{first_of, odd_behind_first, odd_behind_other}
+use Rattle.text.specs.FirstLine.{first_of}
+use Rattle.text.proofs.LinesChoice.{odd_behind_first, odd_behind_other}
 use Rattle.event_log.specs.declared.Event.{Event}
 use Rattle.event_log.specs.Line.{line, line_bytes, line_fixed}
 use Rattle.event_log.specs.Log.{nothing, gives, lines_form, log_form, log_apart, log_whole}

@@ -1,7 +1,5 @@
--- The two forms of a log's lines: which one an accepted text has, and where a text that mixes them is refused.
+-- The two forms of a log's lines: what a byte of the other form is. Which form an accepted text has, and where a text that mixes them is refused, is in proofs/Forms.
 use Rattle.std.specs.Prelude.{ℕ, Bool, true, false}
-
--- ---- which form an accepted text has, and how long it is
 
 -- ---- a log that mixes
 

@@ -5,7 +5,8 @@ use Rattle.text.specs.Form.{Form, seen}
 use Rattle.text.specs.Place.{Whole}
 use Rattle.text.specs.Lines.{lines}
 use Rattle.text.specs.Choice.{choice}
-use Rattle.text.proofs.LinesChoice.{first_of, LinesApart, lines_choice}
+use Rattle.text.specs.FirstLine.{first_of}
+use Rattle.text.proofs.LinesChoice.{LinesApart, lines_choice}
 use Rattle.event_log.specs.Lead.{is_given}
 use Rattle.event_log.specs.Line.{line, line_bytes, line_fixed, numbered_begins, plain_begins}
 use Rattle.event_log.specs.declared.Event.{Event}

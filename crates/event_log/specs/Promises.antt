@@ -15,7 +15,8 @@ use Rattle.text.specs.Place.{Fills, Whole, RefusedAt, fills_small}
 use Rattle.text.specs.Lines.{lines, first_line_lem, lines_whole}
 use Rattle.text.specs.Choice.{Apart, choice}
 use Rattle.text.proofs.Choice.{refused_first, refused_other}
-use Rattle.text.proofs.LinesChoice.{first_of, lines_apart}
+use Rattle.text.specs.FirstLine.{first_of}
+use Rattle.text.proofs.LinesChoice.{lines_apart}
 use Rattle.event_log.specs.declared.Event.{Event}
 use Rattle.event_log.specs.declared.LogRead.{LogRead}
 use Rattle.event_log.specs.Lead.{num_slots, leading}

@@ -12,7 +12,7 @@ use Rattle.meaning.specs.Run as run
 use Rattle.meaning.specs.Limits.{AcceptedTable}
 use Rattle.words.specs.Over.{over}
 use Rattle.text.specs.Number.{width_of}
-use Rattle.text.proofs.LinesChoice.{first_of}
+use Rattle.text.specs.FirstLine.{first_of}
 use Rattle.text.specs.Cases.{below_or_beyond}
 use Rattle.answers.specs.declared.Verdict.{Verdict}
 use Rattle.answers.specs.declared.Verdict.TheVariants.{Inconclusive}

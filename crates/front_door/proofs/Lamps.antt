@@ -10,7 +10,7 @@ use Rattle.std.proofs.Math.ListN.{get_or, get_or-append}
 use Rattle.std.proofs.lemmas.List.{get_or_at}
 use Rattle.words.specs.Tests.{below_cases}
 use Rattle.text.specs.Number.{width_of}
-use Rattle.text.proofs.LinesChoice.{first_of}
+use Rattle.text.specs.FirstLine.{first_of}
 use Rattle.meaning.specs.Says.{Says}
 use Rattle.meaning.specs.Formula.{Formula}
 use Rattle.meaning.specs.Run as run

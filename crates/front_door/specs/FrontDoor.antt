@@ -11,7 +11,7 @@ use Rattle.meaning.specs.Limits.{AcceptedTable, Legal, most_nodes, most_parts}
 use Rattle.text.specs.Number.{width_of}
 use Rattle.text.specs.Written.{small_of}
 use Rattle.text.specs.Lines.{line_start}
-use Rattle.text.proofs.LinesChoice.{first_of}
+use Rattle.text.specs.FirstLine.{first_of}
 use Rattle.answers.specs.declared.Kind.{Kind}
 use Rattle.answers.specs.declared.Kind.TheVariants.{Bits, TableText, LogText, IllegalEvent, File as FileKind, Number as NumberKind}
 use Rattle.answers.specs.declared.Lamp.{Lamp}

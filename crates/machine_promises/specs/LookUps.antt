@@ -1,5 +1,5 @@
--- LOOK-UPS AND STEPPING AGREE: the events of an accepted log, looked up one after another in the bytes that `make_machine` wrote, show what the monitor shows.
--- What must be believed of look-ups is `looked_through` and `lost_put_in`, with machine_lookup/specs/Lookup.
+-- LOOK-UPS AND STEPPING AGREE: the events of an accepted log, looked up one after another in the bytes that `make_machine` wrote, show what the monitor shows
+-- (`look_ups_agree`, in proofs/LookUps). What must be believed of look-ups is `looked_through` and `lost_put_in`, with machine_lookup/specs/Lookup.
 use Prim.Native.Nat.{ℕ, ◌+◌, ◌*◌, ◌≤◌, ◌<◌}
 use Rattle.std.specs.Prelude.{◌≡◌, Bool, true, false, leb, length, get_or, take, replicate}
 use Rattle.std.proofs.Math.Path.{refl, ap}

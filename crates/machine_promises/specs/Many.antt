@@ -1,5 +1,5 @@
--- MANY EVENTS IN ONE CALL SHOW WHAT STEPPING SHOWS: of the bytes that `make_machine` wrote, `look_through` writes for each event what the box shows behind it.
--- `through_of` (machine_events/specs/Through) is by the contract of `look_through` what it answers and writes.
+-- MANY EVENTS IN ONE CALL SHOW WHAT STEPPING SHOWS: of the bytes that `make_machine` wrote, `look_through` writes for each event what the box shows behind it
+-- (`many_agree`, in proofs/Many). `through_of` (machine_events/specs/Through) is by the contract of `look_through` what it answers and writes.
 use Prim.Native.Nat.{ℕ, zero, suc, ◌+◌, ◌-◌, ◌*◌, ◌/◌, ◌<◌}
 use Rattle.std.specs.Prelude.{◌≡◌, refl, Bool, ◌&&◌, cond, leb, ltb, get_or, replicate}
 use Rattle.std.proofs.Math.Path.{sym, ap, subst}

@@ -9,7 +9,7 @@ use Rattle.meaning.specs.Limits.{AcceptedTable}
 use Rattle.pairs.specs.declared.Pairs.{Pairs}
 use Rattle.text.specs.Number.{width_of}
 use Rattle.text.specs.Written.{small_of}
-use Rattle.text.proofs.LinesChoice.{first_of}
+use Rattle.text.specs.FirstLine.{first_of}
 use Rattle.answers.specs.declared.Refusal.{Refusal}
 use Rattle.answers.specs.declared.Outcome.TheVariants as Outcomes
 use Rattle.answers.specs.Paper.{refused_at}

@@ -1,4 +1,5 @@
--- More of specs/Log. Whole logs: the sets, the verdict and the states left after any list of events mean what they should, and the verdict only narrows
+-- More of specs/Log: the sets, the verdict and the states left after any list of events mean what they should, and the verdict only narrows
+-- with one more event, a better sensor or a smaller table.
 use Rattle.std.specs.Prelude.{ℕ, ◌≡◌, Bool, true, false, not, length}
 use Rattle.std.proofs.Common.{subst}
 use Rattle.std.proofs.Math.Bool.{So}

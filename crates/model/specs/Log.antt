@@ -1,5 +1,4 @@
--- Whole logs: the sets, the verdict and the states left after any list of events mean what they should, and the verdict only narrows
--- with one more event, a better sensor or a smaller table.
+-- Whole logs: the model's monitor after any list of events, and when one log is finer than another. What the monitor then means is in proofs/Log.
 use Rattle.std.specs.Prelude.{suc, ◌≡◌, refl, Bool, true, false, cond, length}
 use Rattle.std.proofs.Common.{ap}
 use mathlib.Core.List.{List, [], ◌∷◌, ◌++◌, foldl, Forall₂}

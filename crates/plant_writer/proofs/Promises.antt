@@ -16,6 +16,7 @@ use Rattle.plant_writer.proofs.Lower.{table_lowered}
 use Rattle.plant_writer.specs.Writing.{fitting}
 use Rattle.plant_writer.specs.Promises.{back_answer, back_buffer, table}
 
+-- a text that is accepted comes back byte for byte, its digits small
 pub accepted_back :
     (s old : List ℕ) → (table_read s).outcome ≡ Accepted → length s ≤ length old
     → (back_answer (table_read s).table old ≡ Text (record { bytes = length s })) × (back_buffer (table_read s).table old ≡ over (map lower s) old)

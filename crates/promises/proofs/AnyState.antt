@@ -1,4 +1,5 @@
--- More of specs/AnyState. The step rule (01, The monitor's state), said of the calls: for ANY live set and state handed in, an accepted `open` or `step` holds exactly the pairs that the rule of meaning/specs/Step asks for, taken for
+-- More of specs/AnyState, which has its definitions. The step rule (01, The monitor's state), said of the calls: for ANY live set and state handed in, an accepted `open` or `step` holds exactly
+-- the pairs that the rule of meaning/specs/Step asks for, taken for each event that is missing and then for the one that came (02, h), and what it shows goes by its two sets alone.
 use mathlib.Core.Logic.Iff
 use Rattle.std.specs.Prelude.{ℕ, ◌+◌, ◌≤◌, ◌<◌, ◌≡◌, refl, ◌↔◌, ◌⊎◌, Bool, length, replicate}
 use Rattle.std.proofs.Common.{arith, subst}
@@ -69,6 +70,8 @@ module _ (T : run.Plant) (f : Formula) (A : AcceptedTable T) (small : Small f) (
     where
       none_beyond : (s : ℕ) → T.states ≤ s → occurs s ≡ false
       none_beyond s le = not_so (occurs s) (λ o. let (b, v, i) = (occurs_says s).0 o in let k = ((held b).range s v i).0 in absurd (omega arith))
+
+-- ---- the calls
 
 module _ (p : Plant) (fair label next : List ℕ) (rule : Rule) (full : length rule.nodes ≡ 32) where
   abbrev T : run.Plant

@@ -1,4 +1,5 @@
--- More of specs/Asked. What the other calls answer behind a log (promise 3 of docs/PROMISES.md): `look` shows the lamp once more; and `witness`, lent a buffer of the room it asks for, writes a run of the asked
+-- More of specs/Asked, which has its definitions: what the other calls answer behind a log (promise 3 of docs/PROMISES.md). `witness`, lent a buffer of the room it asks for, writes a run of
+-- the asked kind where there is one, and is refused by 13 where there is none; and with refused events among them the monitor is that behind the accepted ones.
 use mathlib.Core.Logic.Iff
 use Prim.Native.Nat.{ℕ, ◌+◌, ◌^◌, ◌≤◌, ◌<◌}
 use Rattle.std.proofs.Common.{arith, subst, ◌∙◌, inr}
@@ -158,6 +159,9 @@ module _ (p : Plant) (fair label next : List ℕ) (rule : Rule) (given : Input p
   unfolding watching.after
   look_opened = look_same [] tt
 
+  -- ---- with refused events among them
+
+  -- the accepted ones
   abbrev ones : List Event → List Event
   ones = of_asked.ones p fair label next rule given
 

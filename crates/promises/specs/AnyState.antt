@@ -1,6 +1,6 @@
 -- The step rule (01, The monitor's state), said of the calls: for ANY live set and state handed in, an accepted `open` or `step` holds exactly the pairs that the rule of meaning/specs/Step asks for, taken for
 -- each event that is missing and then for the one that came (02, h), and what it shows goes by its two sets alone. Nothing here asks that the live set was prepared, or that the state
--- was reached by events.
+-- was reached by events. Here are the definitions, and that the flag of the first event makes no difference; proofs/AnyState has the other proofs.
 use mathlib.Core.Logic.Iff
 use Rattle.std.specs.Prelude.{ℕ, zero, suc, ◌+◌, ◌≡◌, refl, Bool, length, replicate}
 use Rattle.std.proofs.Common.{◌∙◌}

@@ -1,5 +1,5 @@
 -- What the other calls answer behind a log (promise 3 of docs/PROMISES.md): `look` shows the lamp once more; and `witness`, lent a buffer of the room it asks for, writes a run of the asked
--- kind where there is one, and is refused by 13 where there is none.
+-- kind where there is one, and is refused by 13 where there is none. What is said of `witness` is proved in proofs/Asked.
 use mathlib.Core.Logic.Iff
 use Prim.Native.Nat.{ℕ, ◌+◌, ◌^◌, ◌≤◌}
 use Rattle.std.proofs.Common.{arith, subst, ◌∙◌, le-ltb}

@@ -1,4 +1,4 @@
--- More of specs/Promises. WHAT WAS PUT IN IS READ BACK: `radio_back`, for every radio in which nothing stands but the refusal of an event or of a byte; its words can all stand
+-- More of specs/Promises: what was put in is read back, word by word, and so the whole radio (`radio_back`).
 use Prim.Native.Nat.{ℕ, ◌+◌, ◌-◌, ◌*◌, ◌/◌, ◌%◌, ◌^◌, ◌<◌}
 use Rattle.std.specs.Prelude.{◌≡◌, List}
 use Rattle.std.proofs.Math.Path.{refl, ap}

@@ -1,4 +1,4 @@
--- WHAT WAS PUT IN IS READ BACK: `radio_back`, for every radio in which nothing stands but the refusal of an event or of a byte; its words can all stand
+-- WHAT WAS PUT IN IS READ BACK: `radio_back` (proofs/Promises), for every radio in which nothing stands but the refusal of an event or of a byte; its words can all stand
 -- where they do (`words_stand`), and the other words of the box stay (`others_stay`).
 use Prim.Native.Nat.{ℕ, zero, suc, ◌+◌, ◌-◌, ◌*◌, ◌/◌, ◌%◌, ◌^◌, ◌≤◌, ◌<◌}
 use Rattle.std.specs.Prelude.{◌≡◌, true, cond, ◌&&◌, ◌||◌, ◌⊎◌, List, eqb, ltb, length}

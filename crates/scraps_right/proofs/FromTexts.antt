@@ -1,16 +1,11 @@
--- FROM THE BYTES OF A TABLE, A RULE AND SCRAPS to what the runs of the plant dictate: however a log is cut, each verdict byte is right for the events before it. It reads as WholeLog
--- (front_door/specs) does; the claim is `scraps_right_lem`, the rest is its proof.
-use Rattle.std.specs.Prelude.{ℕ, suc, ◌≤◌, ◌<◌, ◌≡◌, refl, List, map, length, get_or, take, replicate}
+-- FROM THE BYTES OF A TABLE, A RULE AND SCRAPS to what the runs of the plant dictate: however a log is cut, each verdict byte is right for the events before it. Here is the claim of
+-- specs/ScrapsRight proved.
+use Rattle.std.specs.Prelude.{ℕ, ◌≡◌, refl, List, length, get_or, take, replicate}
 use Rattle.std.proofs.Common.{arith, sym, ap, ap₂, subst, ◌∙◌}
 use Rattle.std.proofs.lemmas.List.{length-map, length-replicate}
 use Rattle.std.proofs.Math.Seq.{take-append_seam}
-use Rattle.meaning.specs.Formula.{Formula}
 use Rattle.meaning.specs.Run.{Plant}
-use Rattle.meaning.specs.Limits.{AcceptedTable}
 use Rattle.words.specs.Over.{over}
-use Rattle.answers.specs.declared.Verdict.{Verdict}
-use Rattle.answers.specs.declared.Verdict.TheVariants.{Inconclusive}
-use Rattle.answers.specs.declared.Outcome.{Outcome}
 use Rattle.answers.specs.Paper.{number_of}
 use Rattle.text.specs.Number.{width_of}
 use Rattle.text.specs.Written.{small_of}
@@ -25,31 +20,14 @@ use Rattle.opened.specs.Opened.{opened_of}
 use Rattle.controller.specs.declared.LogAnswer.{LogAnswer}
 use Rattle.controller.specs.Whole.{heard_of}
 use Rattle.transcript.specs.Said.{bytes}
-use Rattle.front_door.specs.FrontDoor.{SaysTable, SaysLog}
-use Rattle.front_door.specs.WholeLog.{VerdictAfter, Closes, at_end_lem, at_event, at_number, SaysBare, answer_of}
+use Rattle.front_door.specs.FrontDoor.{SaysLog}
+use Rattle.front_door.specs.WholeLog.{Closes, at_end_lem, at_event, at_number, answer_of}
 use Rattle.front_door.proofs.FromLog.{whole_log_right, start, behind_rule}
-use Rattle.scraps.specs.Calls.{longest}
 use Rattle.cuttings.specs.Scraps.{Scrap, text}
-use Rattle.scraps_right.specs.Claims.{Roomy, lines_of, said_by_all, end_of_all, GivenTexts, stop_or, count_of}
+use Rattle.scraps_right.specs.Claims.{lines_of, said_by_all, end_of_all, GivenTexts, stop_or, count_of}
+use Rattle.scraps_right.specs.ScrapsRight.{ScrapsRight}
 use Rattle.scraps_right.specs.Texts.{lines_read_lem}
 use Rattle.scraps_right.proofs.Beside.{lines_alone}
-
--- the whole lines of a log say events, and verdict n is right for the events 0 to n; the end is the refusal of the first event that is refused, as `closes` tells it, and else what is
--- said of the log's form
-pub record Heeds (t : Plant) (f : Formula) (log said : List ℕ) (end : Outcome) : Type 0 where
-  pub events : List Event
-  pub says : SaysLog (bytes (lines_of (width_of t.props) log)) t.props events
-  pub verdicts : List Verdict
-  pub are : said ≡ map number_of verdicts
-  pub byte_right : (n : ℕ) → n < length verdicts → VerdictAfter t f (take (suc n) events) (get_or verdicts n Inconclusive)
-  pub answer : LogAnswer
-  pub closes : Closes t events (length verdicts) answer
-  pub ends : end ≡ stop_or answer (log_read (width_of t.props) log).outcome
-
--- texts that say an accepted table and a rule, and scraps with room for their verdicts, of a log that is not too long
-abbrev pub ScrapsRight : Type 0
-ScrapsRight = (table rule : List ℕ) (t : Plant) (f : Formula) → SaysTable (bytes table) t → AcceptedTable t → SaysBare rule t.props f → (ss : List Scrap) → Roomy ss → length (text ss) ≤ longest
-    → Heeds t f (text ss) (said_by_all table rule ss) (end_of_all table rule ss)
 
 closes_count : {t : Plant} {es : List Event} {k : ℕ} {a : LogAnswer} → Closes t es k a → count_of a ≡ k
 closes_count (at_end_lem h) = refl

@@ -7,3 +7,4 @@ pub mod Fine
 pub mod Promises
 pub mod Written
 pub mod OneAnswer
+pub mod ScrapsRight

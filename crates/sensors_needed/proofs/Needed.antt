@@ -1,4 +1,4 @@
--- More of specs/Needed. EACH HYPOTHESIS IS NEEDED: pairs of texts that meet all hypotheses of Sensors but one, and the second lamp does not say as much as the first. From the bytes of the texts to the lamp
+-- More of specs/Needed: the claim, of all rows at once.
 use Rattle.std.specs.Prelude.{◌≡◌, map}
 use Rattle.std.proofs.Common.{ap, ◌∙◌}
 use Rattle.meaning.specs.Step.{table}

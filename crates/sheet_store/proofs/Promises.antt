@@ -1,4 +1,4 @@
--- More of specs/Promises. What the store promises. The contracts of add and copy_out are equations, `r ≡ added store sheet` and `copied store edition buffer`; what that means is said here by sheet/specs/Sheet
+-- More of specs/Promises: what adding a sheet does to the texts that a store holds, and so the store after any adds.
 use Rattle.std.specs.Prelude.{ℕ, ◌≤◌, ◌<◌, ◌≡◌, Bool, List, [], ◌∷◌, ◌++◌, leb, length, drop}
 use Rattle.std.proofs.Math.Path.{refl, ap}
 use Rattle.std.proofs.Common.{◌∙◌, arith}

@@ -1,4 +1,4 @@
--- WHAT WAS ADDED COMES OUT UNTIL IT IS THE OLDEST OF NINE: byte for byte as long as fewer than eight sheets were taken behind it (`comes_out`), and no more from the eighth on (`goes_out`).
+-- WHAT WAS ADDED COMES OUT UNTIL IT IS THE OLDEST OF NINE: byte for byte as long as fewer than eight sheets were taken behind it (`comes_out`), and no more from the eighth on (`goes_out`), both in proofs/Nine.
 use Rattle.std.specs.Prelude.{ℕ, suc, ◌+◌, ◌-◌, ◌≤◌, ◌<◌, ◌≡◌, Bool, true, false, cond, eqb, length, drop}
 use Rattle.std.proofs.Math.Path.{refl, sym}
 use Rattle.std.proofs.Common.{ap, ◌∙◌, arith, length-append, length-drop, eqb-true, ltb-true}

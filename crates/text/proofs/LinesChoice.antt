@@ -17,13 +17,9 @@ use Rattle.text.specs.Many.{slots_below, offset}
 use Rattle.text.specs.Place.{Fills, Whole, RefusedAt}
 use Rattle.text.specs.Lines.{Fixed, line_start, begun, line_at, lines, begun_least, begun_more, fine_line, first_line_lem, lines_whole}
 use Rattle.text.specs.LinesRead.{fills_fit, odd_line}
+use Rattle.text.specs.FirstLine.{first_of}
 use Rattle.text.specs.Choice.{choice, Apart, not_by, choice_whole}
 use Rattle.text.proofs.Choice.{refused_first, refused_other}
-
--- whether there is a first line, and `first` has it
-unfoldable pub first_of : {A : Type 0} → (A → Bool) → List A → Bool
-first_of first [] = false
-first_of first (a ∷ l) = first a
 
 -- the lines of F begin with the byte b, and those of G with c
 pub record LinesApart {A : Type 0} (b c : ℕ) (first : A → Bool) (F G : Form A) : Type 0 where

@@ -14,4 +14,5 @@ pub mod Many
 pub mod Lines
 pub mod Promises
 pub mod LinesRead
+pub mod FirstLine
 pub mod Choice

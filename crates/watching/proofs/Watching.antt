@@ -1,4 +1,4 @@
--- More of specs/Watching. The calls, from an accepted table and rule and from the opening on: checks 1, 2 and 9 pass for ever, so a step is the model's, of all that its event brings,
+-- More of specs/Watching: behind any events, accepted or refused, the calls give the monitor and the lamp of the model behind those accepted (`after_any`, `after_model`).
 use Prim.Native.Nat.{ℕ, ◌+◌}
 use Rattle.std.proofs.Common.{arith, subst, ◌∙◌}
 use Rattle.std.specs.Prelude.{◌≡◌, ◌↔◌, Bool}

@@ -1,5 +1,5 @@
 -- The calls, from an accepted table and rule and from the opening on: checks 1, 2 and 9 pass for ever, so a step is the model's, of all that its event brings,
--- if the event is legal and its number in turn, and else a refusal by 10 or 16 that leaves the monitor. Any events may come.
+-- if the event is legal and its number in turn, and else a refusal by 10 or 16 that leaves the monitor. Any events may come; what is then behind them: proofs/Watching.
 use Prim.Native.Nat.{ℕ, ◌+◌, ◌^◌, ◌≤◌}
 use Rattle.std.proofs.Common.{arith, subst, ◌∙◌}
 use Rattle.std.specs.Prelude.{◌≡◌, ◌↔◌, Bool, ◌&&◌, length, replicate}
