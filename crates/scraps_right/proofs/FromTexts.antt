@@ -25,7 +25,7 @@ use Rattle.front_door.specs.WholeLog.{Closes, at_end_lem, at_event, at_number, a
 use Rattle.front_door.proofs.FromLog.{whole_log_right, start, behind_rule}
 use Rattle.cuttings.specs.Scraps.{Scrap, text}
 use Rattle.scraps_right.specs.Claims.{lines_of, said_by_all, end_of_all, GivenTexts, stop_or, count_of}
-use Rattle.scraps_right.specs.ScrapsRight.{ScrapsRight}
+use Rattle.scraps_right.specs.ScrapsRight.{Heeds, ScrapsRight}
 use Rattle.scraps_right.specs.Texts.{lines_read_lem}
 use Rattle.scraps_right.proofs.Beside.{lines_alone}
 
