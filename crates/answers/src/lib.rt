@@ -5,7 +5,7 @@ ghost use Rattle.std.specs.Prelude.{◌≡◌};
 ghost use Rattle.answers.specs.Paper.{number_of, verdict_for, kind_number, refused_at};
 
 // What is known of the runs that agree with the events: the rule is kept by some and broken by others, kept by all, broken by all, or there is none.
-#[derive(Clone, Copy)]
+#[derive(Clone, Copy, Debug, PartialEq, Eq)]
 pub enum Verdict {
     Inconclusive,
     True,
@@ -54,14 +54,14 @@ impl Verdict {
 }
 
 // What the lamp shows: the verdict, and in how many table states the plant can now be.
-#[derive(Clone, Copy)]
+#[derive(Clone, Copy, Debug, PartialEq, Eq)]
 pub struct Lamp {
     pub verdict: Verdict,
     pub left: usize,
 }
 
 // Why a call is refused.
-#[derive(Clone, Copy)]
+#[derive(Clone, Copy, Debug, PartialEq, Eq)]
 pub enum Kind {
     Counts,
     Bits,
@@ -171,7 +171,7 @@ impl Kind {
 }
 
 // Why a call is refused, and at which byte: 0 where the reason has no place in a text.
-#[derive(Clone, Copy)]
+#[derive(Clone, Copy, Debug, PartialEq, Eq)]
 pub struct Refusal {
     pub kind: Kind,
     pub place: usize,
@@ -186,14 +186,14 @@ impl Refusal {
 }
 
 // The answer of a call that shows the lamp.
-#[derive(Clone, Copy)]
+#[derive(Clone, Copy, Debug, PartialEq, Eq)]
 pub enum Answer {
     Shown(Lamp),
     Refused(Refusal),
 }
 
 // The answer of a call whose value, if it is accepted, stands beside it.
-#[derive(Clone, Copy)]
+#[derive(Clone, Copy, Debug, PartialEq, Eq)]
 pub enum Outcome {
     Accepted,
     Refused(Refusal),

@@ -15,14 +15,14 @@ use answers::{Kind, Outcome, Refusal};
 use text::{Cursor, byte_at, count, expect, expect_all, hex, width_of};
 
 // Which number an event has: the one expected next, or the one that it gives.
-#[derive(Clone, Copy)]
+#[derive(Clone, Copy, Debug, PartialEq, Eq)]
 pub enum Num {
     Expected,
     Given(u32),
 }
 
 // Its number, which propositions are seen, those of them seen to hold, and whether it is a restart.
-#[derive(Clone, Copy)]
+#[derive(Clone, Copy, Debug, PartialEq, Eq)]
 pub struct Event {
     pub num: Num,
     pub see: u16,
@@ -44,21 +44,21 @@ impl Event {
 }
 
 // How many lines a log has, or its refusal, and then 0.
-#[derive(Clone, Copy)]
+#[derive(Clone, Copy, Debug, PartialEq, Eq)]
 pub struct LogRead {
     pub outcome: Outcome,
     pub lines: usize,
 }
 
 // What leads a line: its event's number, and the cursor behind it.
-#[derive(Clone, Copy)]
+#[derive(Clone, Copy, Debug, PartialEq, Eq)]
 struct Lead {
     num: Num,
     next: Cursor,
 }
 
 // An event, and how many bytes fit its line.
-#[derive(Clone, Copy)]
+#[derive(Clone, Copy, Debug, PartialEq, Eq)]
 struct Line {
     event: Event,
     good: usize,

@@ -10,7 +10,7 @@ use answers::{Kind, Outcome, Refusal};
 pub use table_text::read_table;
 
 // State k has the weight 2^k in a set of states.
-#[derive(Clone, Copy)]
+#[derive(Clone, Copy, Debug, PartialEq, Eq)]
 pub struct Plant {
     pub props: usize,
     pub states: usize,
@@ -28,7 +28,7 @@ impl Plant {
 }
 
 // A table that was read, zero beyond the counts: a caller lends `&fair[..just]`, `&label[..states]` and `&next[..states]`.
-#[derive(Clone, Copy)]
+#[derive(Clone, Copy, Debug, PartialEq, Eq)]
 pub struct Table {
     pub plant: Plant,
     pub fair: [u64; 4],
@@ -51,7 +51,7 @@ impl Table {
     };
 }
 
-#[derive(Clone, Copy)]
+#[derive(Clone, Copy, Debug, PartialEq, Eq)]
 pub struct TableRead {
     pub outcome: Outcome,
     pub table: Table,

@@ -9,14 +9,14 @@ use answers::{Kind, Outcome, Refusal};
 use text::{Counted, Cursor, Number, count, expect, expect_all, expect_count, hex, width_of};
 
 // The fairness sets, and the cursor behind them.
-#[derive(Clone, Copy)]
+#[derive(Clone, Copy, Debug, PartialEq, Eq)]
 struct Fair {
     words: [u64; 4],
     end: Cursor,
 }
 
 // The labels and sets of next states, and the cursor behind them.
-#[derive(Clone, Copy)]
+#[derive(Clone, Copy, Debug, PartialEq, Eq)]
 struct Rows {
     label: [u16; 64],
     next: [u64; 64],
@@ -24,7 +24,7 @@ struct Rows {
 }
 
 // The table that the text gives if it is of the form, and how far it is.
-#[derive(Clone, Copy)]
+#[derive(Clone, Copy, Debug, PartialEq, Eq)]
 struct Parsed {
     table: Table,
     end: Cursor,

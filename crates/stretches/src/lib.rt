@@ -7,7 +7,7 @@ ghost use Rattle.stretches.specs.Sheet.{decided_by, decided_after, one_more, fir
 use answers::Verdict;
 
 // The number with which it begins, how many events it has, the verdict behind them all, and the number at which the verdict was first true or false.
-#[derive(Clone, Copy)]
+#[derive(Clone, Copy, Debug, PartialEq, Eq)]
 pub struct Stretch {
     pub first: u64,
     pub events: u64,
@@ -21,7 +21,7 @@ impl Stretch {
 }
 
 // The stretches in their order. Lines beyond the count say nothing.
-#[derive(Clone, Copy)]
+#[derive(Clone, Copy, Debug, PartialEq, Eq)]
 pub struct DaySheet {
     pub count: usize,
     pub lines: [Stretch; 64],

@@ -6,7 +6,7 @@ ghost use Rattle.syntax.specs.Bytes.{sign_of, digit_of, goes_on, NameAt};
 ghost use Rattle.syntax.specs.Postfix.{sides};
 ghost use Rattle.syntax.specs.Value.{empty_rule, stored, held, is_part, count};
 
-#[derive(Clone, Copy)]
+#[derive(Clone, Copy, Debug, PartialEq, Eq)]
 pub enum Op {
     False,
     True,
@@ -22,13 +22,13 @@ pub enum Op {
     Implies,
 }
 
-#[derive(Clone, Copy)]
+#[derive(Clone, Copy, Debug, PartialEq, Eq)]
 pub struct Node {
     pub op: Op,
 }
 
 // A rule in postfix order; the nodes from `len` on are False, so that a rule has exactly one value.
-#[derive(Clone, Copy)]
+#[derive(Clone, Copy, Debug, PartialEq, Eq)]
 pub struct Rule {
     pub len: usize,
     pub nodes: [Node; 32],
@@ -66,7 +66,7 @@ impl Rule {
     }
 }
 
-#[derive(Clone, Copy)]
+#[derive(Clone, Copy, Debug, PartialEq, Eq)]
 pub enum Token {
     Leaf(Op),
     Prefix(Op),
@@ -77,7 +77,7 @@ pub enum Token {
 }
 
 // What one byte may be: a space, a digit, the `p` of a proposition, an operator, the `-` and the `>` of an arrow, a parenthesis.
-#[derive(Clone, Copy)]
+#[derive(Clone, Copy, Debug, PartialEq, Eq)]
 pub enum Sign {
     Blank,
     Digit(u8),
@@ -92,7 +92,7 @@ pub enum Sign {
 }
 
 // What may come next: an operand, the digit of a proposition, a second one or an operator, an operator, the `>` of an arrow; or nothing any more.
-#[derive(Clone, Copy)]
+#[derive(Clone, Copy, Debug, PartialEq, Eq)]
 pub enum Mode {
     Operand,
     Number,
@@ -103,7 +103,7 @@ pub enum Mode {
 }
 
 // What a byte does: it leads to a mode, opens or closes a parenthesis, or nothing may come any more.
-#[derive(Clone, Copy)]
+#[derive(Clone, Copy, Debug, PartialEq, Eq)]
 pub enum Move {
     ToOperand,
     ToNumber,
@@ -115,14 +115,14 @@ pub enum Move {
     Stops,
 }
 
-#[derive(Clone, Copy)]
+#[derive(Clone, Copy, Debug, PartialEq, Eq)]
 pub struct State {
     pub mode: Mode,
     pub depth: usize,
 }
 
 // Whether a text is of the grammar, and if not the place that says so.
-#[derive(Clone, Copy)]
+#[derive(Clone, Copy, Debug, PartialEq, Eq)]
 pub enum Scan {
     Good,
     Bad(usize),
@@ -189,7 +189,7 @@ pub fn goes_on(sign: Sign) -> bool
 }
 
 // The number of a proposition, and the place behind its name.
-#[derive(Clone, Copy)]
+#[derive(Clone, Copy, Debug, PartialEq, Eq)]
 pub struct Name {
     pub number: u8,
     pub next: usize,

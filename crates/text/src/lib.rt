@@ -8,7 +8,7 @@ ghost use Rattle.text.specs.After.{meets, further, cursor_after};
 ghost use Rattle.text.specs.Read.{IsDigit, IsHex, IsCount};
 
 // The place of the next slot, and how many bytes fit their slots before the first that did not.
-#[derive(Clone, Copy)]
+#[derive(Clone, Copy, Debug, PartialEq, Eq)]
 pub struct Cursor {
     pub at: usize,
     pub good: usize,
@@ -19,13 +19,13 @@ impl Cursor {
 }
 
 // A number that was read, and the cursor behind it.
-#[derive(Clone, Copy)]
+#[derive(Clone, Copy, Debug, PartialEq, Eq)]
 pub struct Number {
     pub value: u64,
     pub next: Cursor,
 }
 
-#[derive(Clone, Copy)]
+#[derive(Clone, Copy, Debug, PartialEq, Eq)]
 pub struct Counted {
     pub value: usize,
     pub next: Cursor,

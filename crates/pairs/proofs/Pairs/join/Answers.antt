@@ -1,17 +1,8 @@
--- `Pairs::join`: the words passed are joined, the others still 0.
-use Prim.Native.Nat.{◌-◌, zero-le}
-use native.Mathlib.Omega.{arith}
-use native.Mathlib.Nat.{le_antisymm}
-use Rattle.words.specs.Lists.{words_none, words_more}
-use Rattle.pairs.specs.Sets.{join_of}
+use Rattle.std.proofs.Common.{rules}
+use Rattle.words.proofs.Made.{words_made}
+use Rattle.pairs.specs.Sets.{join_of, joined_at}
 use Rattle.pairs.proofs.Pairs.join.Goals as goal
-
-pub loop-v-init : goal.loop-v-init
-loop-v-init c = (zero-le, words_none _)
-
-pub loop-v-preserved : goal.loop-v-preserved
-loop-v-preserved c = (omega arith, rw (← words_more) (cc))
 
 pub returns : goal.returns
 unfolding join_of
-returns c = cc (le_antisymm c.loop-v.invariant.0 c.loop-v-test.false)
+returns c = words_made _ _ (joined_at c.args.self.words c.args.other.words) (λ k y q call. search rules) _ c.from_fn.ensures.items
