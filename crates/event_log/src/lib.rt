@@ -72,8 +72,7 @@ pub fn is_legal(event: Event, props: usize) -> bool
     if Event::PROPS < props {
         return false;
     }
-    let below = (event.see as u64) < words::single(props);
-    below & (event.val & event.see == event.val)
+    u64::from(event.see) < words::single(props) && event.val & event.see == event.val
 }
 
 // How many bytes a line of so many digits has, with a number or without one.
@@ -82,10 +81,7 @@ fn bytes_of(numbered: bool, width: usize) -> usize
     ensures { result ≡ line_bytes numbered width }
 {
     let plain = 16 + (width + width);
-    if numbered {
-        return 13 + plain;
-    }
-    plain
+    if numbered { 13 + plain } else { plain }
 }
 
 // Whether a log's lines are to be numbered: its first byte tells it, the `n` of `num=`.
@@ -93,7 +89,7 @@ fn bytes_of(numbered: bool, width: usize) -> usize
 fn is_numbered(text: &[u8]) -> bool
     ensures { result ≡ is_numbered text.now }
 {
-    byte_at(text, 0) == 110
+    byte_at(text, 0) == b'n'
 }
 
 // How many bytes each line of a log has where there are so many propositions: 20 or 24, and 33 or 37 with numbers.
@@ -112,7 +108,7 @@ fn read_lead(text: &[u8], numbered: bool) -> Lead
         let given = hex(text, a, 8);
         return Lead {
             num: Num::Given(given.value as u32),
-            next: expect(text, given.next, 32),
+            next: expect(text, given.next, b' '),
         };
     }
     Lead {
@@ -127,23 +123,21 @@ fn read_line(text: &[u8], numbered: bool, width: usize) -> Line
     ensures { IsLine (line numbered width) text.now result.event result.good }
 {
     let lead = read_lead(text, numbered);
-    let num = lead.num;
     let a = expect_all(text, lead.next, b"see=");
     let see = hex(text, a, width);
     let b = expect_all(text, see.next, b" val=");
     let val = hex(text, b, width);
     let d = expect_all(text, val.next, b" new=");
-    let new = count(text, d, 10, 0, 1);
-    let end = new.next;
+    let new = count(text, d, b'\n', 0, 1);
     let event = Event {
-        num,
+        num: lead.num,
         see: see.value as u16,
         val: val.value as u16,
         new: new.value == 1,
     };
     Line {
         event,
-        good: end.good,
+        good: new.next.good,
     }
 }
 
@@ -153,18 +147,15 @@ fn read_lines(text: &[u8], numbered: bool, width: usize) -> LogRead
     ensures { result ≡ read_as numbered width text.now }
 {
     let bytes = bytes_of(numbered, width);
-    let mut at = 0;
     let mut lines = 0;
-    while at < text.len() {
-        let line = read_line(&text[at..], numbered, width);
-        let good = line.good;
+    for at in (0..text.len()).step_by(bytes) {
+        let good = read_line(&text[at..], numbered, width).good;
         if good < bytes {
             return LogRead {
                 outcome: Outcome::Refused(Refusal::at(Kind::LogText, at + good)),
                 lines: 0,
             };
         }
-        at += bytes;
         lines += 1;
     }
     LogRead {
@@ -188,10 +179,10 @@ fn event_in(text: &[u8], line: usize, numbered: bool, width: usize) -> Event
     let bytes = bytes_of(numbered, width);
     if line < text.len() / bytes {
         let at = line * bytes;
-        let read = read_line(&text[at..], numbered, width);
-        return read.event;
+        read_line(&text[at..], numbered, width).event
+    } else {
+        Event::NOTHING
     }
-    Event::NOTHING
 }
 
 // The event of a line, counted from 0, for so many propositions; one that sees nothing beyond the last whole line.
