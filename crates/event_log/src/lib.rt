@@ -12,7 +12,7 @@ ghost use Rattle.event_log.specs.Line.{line, line_bytes};
 ghost use Rattle.event_log.specs.Read.{is_numbered, bytes_in, read_as, event_as, log_read, event_at};
 
 use answers::{Kind, Outcome, Refusal};
-use text::{Cursor, byte_at, count, expect, expect_all, hex, width_of};
+use text::{Cursor, Reading, byte_at, count, expect, expect_all, hex, width_of};
 
 // Which number an event has: the one expected next, or the one that it gives.
 #[derive(Clone, Copy, Debug, PartialEq, Eq)]
@@ -48,13 +48,6 @@ impl Event {
 pub struct LogRead {
     pub outcome: Outcome,
     pub lines: usize,
-}
-
-// What leads a line: its event's number, and the cursor behind it.
-#[derive(Clone, Copy, Debug, PartialEq, Eq)]
-struct Lead {
-    num: Num,
-    next: Cursor,
 }
 
 // An event, and how many bytes fit its line.
@@ -100,19 +93,19 @@ pub fn line_bytes(text: &[u8], props: usize) -> usize
 }
 
 // The number that leads a numbered line. Nothing leads any other, and its event has the number expected.
-fn read_lead(text: &[u8], numbered: bool) -> Lead
-    ensures { Took (leading numbered) text.now (cursor 0 0) result.num result.next × (result.next.at ≤ 13) }
+fn read_lead(text: &[u8], numbered: bool) -> Reading<Num>
+    ensures { Took (leading numbered) text.now (cursor 0 0) result.value result.next × (result.next.at ≤ 13) }
 {
     if numbered {
         let a = expect_all(text, Cursor::START, b"num=");
         let given = hex(text, a, 8);
-        return Lead {
-            num: Num::Given(given.value as u32),
+        return Reading {
+            value: Num::Given(given.value as u32),
             next: expect(text, given.next, b' '),
         };
     }
-    Lead {
-        num: Num::Expected,
+    Reading {
+        value: Num::Expected,
         next: Cursor::START,
     }
 }
@@ -130,7 +123,7 @@ fn read_line(text: &[u8], numbered: bool, width: usize) -> Line
     let d = expect_all(text, val.next, b" new=");
     let new = count(text, d, b'\n', 0, 1);
     let event = Event {
-        num: lead.num,
+        num: lead.value,
         see: see.value as u16,
         val: val.value as u16,
         new: new.value == 1,

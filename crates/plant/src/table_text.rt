@@ -6,7 +6,7 @@ ghost use Rattle.plant.specs.Read.{lent_check, refused_read, IsParsed, table_rea
 
 use crate::{Plant, Table, TableRead, check_table};
 use answers::{Kind, Outcome, Refusal};
-use text::{Counted, Cursor, Number, count, expect, expect_all, expect_count, hex, width_of};
+use text::{Cursor, Reading, count, expect, expect_all, expect_count, hex, width_of};
 
 // The fairness sets, and the cursor behind them.
 #[derive(Clone, Copy, Debug, PartialEq, Eq)]
@@ -31,7 +31,7 @@ struct Parsed {
 }
 
 // A key, a count and LF.
-fn count_line(text: &[u8], c: Cursor, key: &[u8], lo: usize, hi: usize) -> Counted
+fn count_line(text: &[u8], c: Cursor, key: &[u8], lo: usize, hi: usize) -> Reading<usize>
     requires { (lo ≤ 1) × (lo ≤ hi) × (hi < 100) × (length key.now ≤ 8) × (c.at < 100000) }
     ensures { IsCountLine text.now c key.now lo hi result.value result.next }
 {
@@ -39,19 +39,19 @@ fn count_line(text: &[u8], c: Cursor, key: &[u8], lo: usize, hi: usize) -> Count
 }
 
 // Behind a key: a number of so many hexadecimal digits and LF.
-fn hex_end(text: &[u8], c: Cursor, width: usize) -> Number
+fn hex_end(text: &[u8], c: Cursor, width: usize) -> Reading<u64>
     requires { (width ≤ 16) × (c.at < 200000) }
     ensures { IsHexLine text.now c [] width result.value result.next × (result.next.at ≤ c.at + 17) }
 {
     let n = hex(text, c, width);
-    Number {
+    Reading {
         value: n.value,
         next: expect(text, n.next, b'\n'),
     }
 }
 
 // A name, a number below 100, `=`, and such a number.
-fn field(text: &[u8], c: Cursor, name: &[u8], k: usize, width: usize) -> Number
+fn field(text: &[u8], c: Cursor, name: &[u8], k: usize, width: usize) -> Reading<u64>
     requires { (k < 100) × (width ≤ 16) × (length name.now ≤ 8) × (c.at < 100000) }
     ensures { IsHexLine text.now c (key_slots name.now k) width result.value result.next × (result.next.at ≤ c.at + 28) }
 {

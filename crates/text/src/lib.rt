@@ -18,16 +18,10 @@ impl Cursor {
     pub const START: Cursor = Cursor { at: 0, good: 0 };
 }
 
-// A number that was read, and the cursor behind it.
+// What was read, and the cursor behind it.
 #[derive(Clone, Copy, Debug, PartialEq, Eq)]
-pub struct Number {
-    pub value: u64,
-    pub next: Cursor,
-}
-
-#[derive(Clone, Copy, Debug, PartialEq, Eq)]
-pub struct Counted {
-    pub value: usize,
+pub struct Reading<T> {
+    pub value: T,
     pub next: Cursor,
 }
 
@@ -105,25 +99,25 @@ pub fn expect_all(text: &[u8], c: Cursor, known: &[u8]) -> Cursor
 }
 
 // One hexadecimal digit.
-fn digit(text: &[u8], c: Cursor) -> Number
+fn digit(text: &[u8], c: Cursor) -> Reading<u64>
     requires { c.at < 4294967295 }
     ensures { IsDigit text.now c result.value result.next }
 {
     let v = digit_at(text, c.at);
     if v < 16 {
-        return Number {
+        return Reading {
             value: u64::from(v),
             next: step(c, true),
         };
     }
-    Number {
+    Reading {
         value: 0,
         next: step(c, false),
     }
 }
 
 // A hexadecimal number of so many digits.
-pub fn hex(text: &[u8], c: Cursor, width: usize) -> Number
+pub fn hex(text: &[u8], c: Cursor, width: usize) -> Reading<u64>
     requires { (width ≤ 16) × (c.at + 16 < 4294967295) }
     ensures { IsHex text.now c width result.value result.next }
 {
@@ -134,7 +128,7 @@ pub fn hex(text: &[u8], c: Cursor, width: usize) -> Number
         value = value * 16 + x.value;
         next = x.next;
     }
-    Number { value, next }
+    Reading { value, next }
 }
 
 // How many digits a set of propositions has where there are so many.
@@ -186,12 +180,12 @@ pub fn expect_count(text: &[u8], c: Cursor, end: u8, n: usize) -> Cursor
 
 // A count from lo to hi, and the byte that ends it.
 #[tactic(auto, using(crate::specs::Count::count_within))]
-pub fn count(text: &[u8], c: Cursor, end: u8, lo: usize, hi: usize) -> Counted
+pub fn count(text: &[u8], c: Cursor, end: u8, lo: usize, hi: usize) -> Reading<usize>
     requires { (lo ≤ 1) × (lo ≤ hi) × (hi < 100) × (c.at + 3 < 4294967295) }
     ensures { IsCount text.now c end lo hi result.value result.next }
 {
     let value = count_of(lo, hi, digit_at(text, c.at), digit_at(text, c.at + 1));
-    Counted {
+    Reading {
         value,
         next: expect_count(text, c, end, value),
     }
