@@ -12,7 +12,7 @@ ghost use Rattle.event_log.specs.Line.{line, line_bytes};
 ghost use Rattle.event_log.specs.Read.{is_numbered, bytes_in, read_as, event_as, log_read, event_at};
 
 use answers::{Kind, Outcome, Refusal};
-use text::{Cursor, byte_at, count, expect, expect_all, hex, width_of};
+use text::{Cursor, Reading, byte_at, count, expect, expect_all, hex, width_of};
 
 // Which number an event has: the one expected next, or the one that it gives.
 #[derive(Clone, Copy, Debug, PartialEq, Eq)]
@@ -50,13 +50,6 @@ pub struct LogRead {
     pub lines: usize,
 }
 
-// What leads a line: its event's number, and the cursor behind it.
-#[derive(Clone, Copy, Debug, PartialEq, Eq)]
-struct Lead {
-    num: Num,
-    next: Cursor,
-}
-
 // An event, and how many bytes fit its line.
 #[derive(Clone, Copy, Debug, PartialEq, Eq)]
 struct Line {
@@ -72,8 +65,7 @@ pub fn is_legal(event: Event, props: usize) -> bool
     if Event::PROPS < props {
         return false;
     }
-    let below = (event.see as u64) < words::single(props);
-    below & (event.val & event.see == event.val)
+    u64::from(event.see) < words::single(props) && event.val & event.see == event.val
 }
 
 // How many bytes a line of so many digits has, with a number or without one.
@@ -82,10 +74,7 @@ fn bytes_of(numbered: bool, width: usize) -> usize
     ensures { result ≡ line_bytes numbered width }
 {
     let plain = 16 + (width + width);
-    if numbered {
-        return 13 + plain;
-    }
-    plain
+    if numbered { 13 + plain } else { plain }
 }
 
 // Whether a log's lines are to be numbered: its first byte tells it, the `n` of `num=`.
@@ -93,7 +82,7 @@ fn bytes_of(numbered: bool, width: usize) -> usize
 fn is_numbered(text: &[u8]) -> bool
     ensures { result ≡ is_numbered text.now }
 {
-    byte_at(text, 0) == 110
+    byte_at(text, 0) == b'n'
 }
 
 // How many bytes each line of a log has where there are so many propositions: 20 or 24, and 33 or 37 with numbers.
@@ -104,19 +93,19 @@ pub fn line_bytes(text: &[u8], props: usize) -> usize
 }
 
 // The number that leads a numbered line. Nothing leads any other, and its event has the number expected.
-fn read_lead(text: &[u8], numbered: bool) -> Lead
-    ensures { Took (leading numbered) text.now (cursor 0 0) result.num result.next × (result.next.at ≤ 13) }
+fn read_lead(text: &[u8], numbered: bool) -> Reading<Num>
+    ensures { Took (leading numbered) text.now (cursor 0 0) result.value result.next × (result.next.at ≤ 13) }
 {
     if numbered {
         let a = expect_all(text, Cursor::START, b"num=");
         let given = hex(text, a, 8);
-        return Lead {
-            num: Num::Given(given.value as u32),
-            next: expect(text, given.next, 32),
+        return Reading {
+            value: Num::Given(given.value as u32),
+            next: expect(text, given.next, b' '),
         };
     }
-    Lead {
-        num: Num::Expected,
+    Reading {
+        value: Num::Expected,
         next: Cursor::START,
     }
 }
@@ -127,23 +116,21 @@ fn read_line(text: &[u8], numbered: bool, width: usize) -> Line
     ensures { IsLine (line numbered width) text.now result.event result.good }
 {
     let lead = read_lead(text, numbered);
-    let num = lead.num;
     let a = expect_all(text, lead.next, b"see=");
     let see = hex(text, a, width);
     let b = expect_all(text, see.next, b" val=");
     let val = hex(text, b, width);
     let d = expect_all(text, val.next, b" new=");
-    let new = count(text, d, 10, 0, 1);
-    let end = new.next;
+    let new = count(text, d, b'\n', 0, 1);
     let event = Event {
-        num,
+        num: lead.value,
         see: see.value as u16,
         val: val.value as u16,
         new: new.value == 1,
     };
     Line {
         event,
-        good: end.good,
+        good: new.next.good,
     }
 }
 
@@ -153,18 +140,15 @@ fn read_lines(text: &[u8], numbered: bool, width: usize) -> LogRead
     ensures { result ≡ read_as numbered width text.now }
 {
     let bytes = bytes_of(numbered, width);
-    let mut at = 0;
     let mut lines = 0;
-    while at < text.len() {
-        let line = read_line(&text[at..], numbered, width);
-        let good = line.good;
+    for at in (0..text.len()).step_by(bytes) {
+        let good = read_line(&text[at..], numbered, width).good;
         if good < bytes {
             return LogRead {
                 outcome: Outcome::Refused(Refusal::at(Kind::LogText, at + good)),
                 lines: 0,
             };
         }
-        at += bytes;
         lines += 1;
     }
     LogRead {
@@ -188,10 +172,10 @@ fn event_in(text: &[u8], line: usize, numbered: bool, width: usize) -> Event
     let bytes = bytes_of(numbered, width);
     if line < text.len() / bytes {
         let at = line * bytes;
-        let read = read_line(&text[at..], numbered, width);
-        return read.event;
+        read_line(&text[at..], numbered, width).event
+    } else {
+        Event::NOTHING
     }
-    Event::NOTHING
 }
 
 // The event of a line, counted from 0, for so many propositions; one that sees nothing beyond the last whole line.

@@ -19,7 +19,7 @@ pub fn number_of(num: Num, expected: u64) -> u64
 {
     match num {
         Num::Expected => expected,
-        Num::Given(number) => number as u64,
+        Num::Given(number) => u64::from(number),
     }
 }
 
@@ -28,38 +28,33 @@ pub fn missing(seen: bool, expected: u64, number: u64) -> u64
     ensures { result ≡ missing_of seen expected number }
 {
     if seen {
-        if expected < number {
-            return number - expected;
-        }
-        return 0;
+        number.saturating_sub(expected)
+    } else {
+        0
     }
-    0
 }
 
 // Whether an event may have this number: some are left, and behind another event it goes neither back nor over more than may be missing.
+#[tactic(auto, unfolding(crate::specs::Numbers::in_turn))]
 fn in_turn(seen: bool, expected: u64, number: u64) -> bool
     ensures { result ≡ in_turn seen expected number }
 {
     if USED_UP <= expected {
         return false;
     }
-    if seen {
-        return (number < USED_UP) & ((expected <= number) & (number <= expected + MISSING));
-    }
-    number < USED_UP
+    number < USED_UP && (!seen || expected <= number && number <= expected + MISSING)
 }
 
 // Checks 10 and 16.
+#[tactic(auto, unfolding(crate::specs::Numbers::event_outcome))]
 pub fn check_event(event: Event, props: usize, seen: bool, expected: u64) -> Outcome
     ensures { result ≡ event_outcome event props seen expected }
 {
     if !event_log::is_legal(event, props) {
         return Outcome::Refused(Refusal::at(Kind::IllegalEvent, 0));
     }
-    let num = event.num;
-    let number = number_of(num, expected);
-    if in_turn(seen, expected, number) {
-        return Outcome::Accepted;
+    if !in_turn(seen, expected, number_of(event.num, expected)) {
+        return Outcome::Refused(Refusal::at(Kind::Number, 0));
     }
-    Outcome::Refused(Refusal::at(Kind::Number, 0))
+    Outcome::Accepted
 }

@@ -75,7 +75,7 @@ pub fn asked_folder<R: Env>(rt: &R, path: &mut [u8]) -> usize
 fn this_folder(path: &mut [u8]) -> usize
     ensures { IsPrefixLen result path.new }
 {
-    if path.len() == 0 {
+    if path.is_empty() {
         return 0;
     }
     path[0] = b'.';
@@ -96,15 +96,7 @@ fn path_in(folder: &[u8], name: &[u8], path: &mut [u8]) -> usize
     ensures text { take result path.new ≡ path_of (length path.old) folder.now name.now }
     ensures count { IsPrefixLen result path.new }
 {
-    let room = path.len();
-    let part = folder.len();
-    if part == 0 {
-        return 0;
-    }
-    if room < part {
-        return 0;
-    }
-    if room - part <= name.len() {
+    if folder.is_empty() || path.len() <= folder.len().saturating_add(name.len()) {
         return 0;
     }
     put_path(folder, name, path)

@@ -66,40 +66,30 @@ fn is_below(set: u64, n: usize) -> bool
 }
 
 // The union of all sets of states.
+#[tactic(auto, using(crate::proofs::United::united_by_fold))]
 fn united_sets(sets: &[u64]) -> u64
     ensures { result ≡ united sets.now }
 {
-    let mut all = 0;
-    let mut at = 0;
-    while at < sets.len() {
-        all |= sets[at];
-        at += 1;
-    }
-    all
+    sets.iter().fold(0, |all, set| all | set)
 }
 
 // The union of all labels.
+#[tactic(auto, using(crate::proofs::United::united_by_fold))]
 fn united_labels(labels: &[u16]) -> u64
     ensures { result ≡ united labels.now }
 {
-    let mut all = 0;
-    let mut at = 0;
-    while at < labels.len() {
-        all |= words::wide(labels[at]);
-        at += 1;
-    }
-    all
+    labels.iter().fold(0, |all, &label| all | u64::from(label))
 }
 
 // Whether the counts are in range, and the lent parts have their lengths.
 fn counts_fit(plant: Plant, fair: usize, label: usize, next: usize) -> bool
     ensures { result ≡ counts_of plant fair label next }
 {
-    let props = (1 <= plant.props) & (plant.props <= Plant::PROPS);
-    let states = (1 <= plant.states) & (plant.states <= Plant::STATES);
-    let just = (plant.just <= Plant::JUST) & (fair == plant.just);
-    let parts = (label == plant.states) & (next == plant.states);
-    props & states & just & parts
+    let props = 1 <= plant.props && plant.props <= Plant::PROPS;
+    let states = 1 <= plant.states && plant.states <= Plant::STATES;
+    let just = plant.just <= Plant::JUST && fair == plant.just;
+    let parts = label == plant.states && next == plant.states;
+    props && states && just && parts
 }
 
 // Whether each bit names a state or a proposition that there is: one test of all sets united.
@@ -109,18 +99,18 @@ fn bits_fit(plant: Plant, fair: &[u64], label: &[u16], next: &[u64]) -> bool
 {
     let states = plant.start | united_sets(fair) | united_sets(next);
     let props = united_labels(label);
-    is_below(states, plant.states) & is_below(props, plant.props)
+    is_below(states, plant.states) && is_below(props, plant.props)
 }
 
 // The check of a table handed in: 1 before 2.
 pub fn check_table(plant: Plant, fair: &[u64], label: &[u16], next: &[u64]) -> Outcome
     ensures { result ≡ table_outcome plant fair.now label.now next.now }
 {
-    if counts_fit(plant, fair.len(), label.len(), next.len()) {
-        if bits_fit(plant, fair, label, next) {
-            return Outcome::Accepted;
-        }
+    if !counts_fit(plant, fair.len(), label.len(), next.len()) {
+        return Outcome::Refused(Refusal::at(Kind::Counts, 0));
+    }
+    if !bits_fit(plant, fair, label, next) {
         return Outcome::Refused(Refusal::at(Kind::Bits, 0));
     }
-    Outcome::Refused(Refusal::at(Kind::Counts, 0))
+    Outcome::Accepted
 }

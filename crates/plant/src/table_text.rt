@@ -6,7 +6,7 @@ ghost use Rattle.plant.specs.Read.{lent_check, refused_read, IsParsed, table_rea
 
 use crate::{Plant, Table, TableRead, check_table};
 use answers::{Kind, Outcome, Refusal};
-use text::{Counted, Cursor, Number, count, expect, expect_all, expect_count, hex, width_of};
+use text::{Cursor, Reading, count, expect, expect_all, expect_count, hex, width_of};
 
 // The fairness sets, and the cursor behind them.
 #[derive(Clone, Copy, Debug, PartialEq, Eq)]
@@ -31,33 +31,32 @@ struct Parsed {
 }
 
 // A key, a count and LF.
-fn count_line(text: &[u8], c: Cursor, key: &[u8], lo: usize, hi: usize) -> Counted
+fn count_line(text: &[u8], c: Cursor, key: &[u8], lo: usize, hi: usize) -> Reading<usize>
     requires { (lo ≤ 1) × (lo ≤ hi) × (hi < 100) × (length key.now ≤ 8) × (c.at < 100000) }
     ensures { IsCountLine text.now c key.now lo hi result.value result.next }
 {
-    count(text, expect_all(text, c, key), 10, lo, hi)
+    count(text, expect_all(text, c, key), b'\n', lo, hi)
 }
 
 // Behind a key: a number of so many hexadecimal digits and LF.
-fn hex_end(text: &[u8], c: Cursor, width: usize) -> Number
+fn hex_end(text: &[u8], c: Cursor, width: usize) -> Reading<u64>
     requires { (width ≤ 16) × (c.at < 200000) }
     ensures { IsHexLine text.now c [] width result.value result.next × (result.next.at ≤ c.at + 17) }
 {
     let n = hex(text, c, width);
-    let d = n.next;
-    Number {
+    Reading {
         value: n.value,
-        next: expect(text, d, 10),
+        next: expect(text, n.next, b'\n'),
     }
 }
 
 // A name, a number below 100, `=`, and such a number.
-fn field(text: &[u8], c: Cursor, name: &[u8], k: usize, width: usize) -> Number
+fn field(text: &[u8], c: Cursor, name: &[u8], k: usize, width: usize) -> Reading<u64>
     requires { (k < 100) × (width ≤ 16) × (length name.now ≤ 8) × (c.at < 100000) }
     ensures { IsHexLine text.now c (key_slots name.now k) width result.value result.next × (result.next.at ≤ c.at + 28) }
 {
     let d = expect_all(text, c, name);
-    let e = expect_count(text, d, 61, k);
+    let e = expect_count(text, d, b'=', k);
     hex_end(text, e, width)
 }
 
@@ -66,16 +65,14 @@ fn read_fair(text: &[u8], c: Cursor, n: usize) -> Fair
     requires { (n ≤ 4) × (c.at < 10000) }
     ensures { IsFair text.now c n result.words result.end }
 {
-    let mut words = [0u64; 4];
-    let mut d = c;
-    let mut k = 0;
-    while k < n {
-        let x = field(text, d, b"j", k, 16);
-        words[k] = x.value;
-        d = x.next;
-        k += 1;
+    let mut words = [0; 4];
+    let mut end = c;
+    for k in 0..n {
+        let set = field(text, end, b"j", k, 16);
+        words[k] = set.value;
+        end = set.next;
     }
-    Fair { words, end: d }
+    Fair { words, end }
 }
 
 // The lines `label` and `next` of each state, labels of so many digits.
@@ -83,23 +80,17 @@ fn read_rows(text: &[u8], c: Cursor, width: usize, n: usize) -> Rows
     requires { (n ≤ 64) × (c.at < 20000) × (width ≤ 4) }
     ensures { IsRows text.now c width n result.label result.next result.end }
 {
-    let mut label = [0u16; 64];
-    let mut next = [0u64; 64];
-    let mut d = c;
-    let mut k = 0;
-    while k < n {
-        let x = field(text, d, b"label", k, width);
-        let y = field(text, x.next, b"next", k, 16);
-        label[k] = x.value as u16;
-        next[k] = y.value;
-        d = y.next;
-        k += 1;
+    let mut label = [0; 64];
+    let mut next = [0; 64];
+    let mut end = c;
+    for k in 0..n {
+        let props = field(text, end, b"label", k, width);
+        let states = field(text, props.next, b"next", k, 16);
+        label[k] = props.value as u16;
+        next[k] = states.value;
+        end = states.next;
     }
-    Rows {
-        label,
-        next,
-        end: d,
-    }
+    Rows { label, next, end }
 }
 
 // All lines, one after the other.
@@ -111,13 +102,9 @@ fn parse(text: &[u8]) -> Parsed
     let key = expect_all(text, states.next, b"start=");
     let start = hex_end(text, key, 16);
     let just = count_line(text, start.next, b"just=", 0, Plant::JUST);
-    let fair = read_fair(text, just.next, just.value);
+    let Fair { words: fair, end } = read_fair(text, just.next, just.value);
     let width = width_of(props.value);
-    let rows = read_rows(text, fair.end, width, states.value);
-    let words = fair.words;
-    let label = rows.label;
-    let next = rows.next;
-    let end = rows.end;
+    let Rows { label, next, end } = read_rows(text, end, width, states.value);
     let plant = Plant {
         props: props.value,
         states: states.value,
@@ -126,7 +113,7 @@ fn parse(text: &[u8]) -> Parsed
     };
     let table = Table {
         plant,
-        fair: words,
+        fair,
         label,
         next,
     };
@@ -138,22 +125,21 @@ fn check_read(table: Table) -> Outcome
     requires { (table.plant.just ≤ 4) × (table.plant.states ≤ 64) }
     ensures { result ≡ lent_check table }
 {
-    let plant = table.plant;
-    let fair = table.fair;
-    let label = table.label;
-    let next = table.next;
-    let just = plant.just;
-    let states = plant.states;
-    check_table(plant, &fair[..just], &label[..states], &next[..states])
+    let Plant { just, states, .. } = table.plant;
+    check_table(
+        table.plant,
+        &table.fair[..just],
+        &table.label[..states],
+        &table.next[..states],
+    )
 }
 
 fn refused(refusal: Refusal) -> TableRead
     ensures { result ≡ refused_read refusal }
 {
-    let table = Table::EMPTY;
     TableRead {
         outcome: Outcome::Refused(refusal),
-        table,
+        table: Table::EMPTY,
     }
 }
 
@@ -161,10 +147,8 @@ fn refused(refusal: Refusal) -> TableRead
 pub fn read_table(text: &[u8]) -> TableRead
     ensures { result ≡ table_read text.now }
 {
-    let p = parse(text);
-    let end = p.end;
-    let table = p.table;
-    if (end.good < end.at) | (end.at < text.len()) {
+    let Parsed { table, end } = parse(text);
+    if end.good < end.at || end.at < text.len() {
         return refused(Refusal::at(Kind::TableText, end.good));
     }
     let outcome = check_read(table);

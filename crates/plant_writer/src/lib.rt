@@ -47,8 +47,7 @@ pub fn write_table(
     ensures answer { result ≡ write_answer plant fair.now label.now next.now buffer.old }
     ensures buffer { buffer.new ≡ write_buffer plant fair.now label.now next.now buffer.old }
 {
-    let checked = plant::check_table(plant, fair, label, next);
-    match checked {
+    match plant::check_table(plant, fair, label, next) {
         Outcome::Refused(refusal) => Wrote::Refused(refusal),
         Outcome::Accepted => {
             let mut text = [0u8; Length::MOST];

@@ -19,9 +19,10 @@ fn digit_byte(v: u64) -> u8
     ensures { result ≡ digit_byte v }
 {
     if v < 10 {
-        return v as u8 + b'0';
+        v as u8 + b'0'
+    } else {
+        (v - 10) as u8 + b'a'
     }
-    (v - 10) as u8 + b'a'
 }
 
 // A hexadecimal number of so many digits: those of higher weight first.
@@ -57,7 +58,7 @@ fn put_count_line(buffer: &mut [u8], at: usize, key: &[u8], n: usize) -> usize
     ensures { Put buffer.old at (text_of (word key.now ++ count_slots 10 n)) buffer.new result }
 {
     let behind = put_text(buffer, at, key);
-    put_count(buffer, behind, 10, n)
+    put_count(buffer, behind, b'\n', n)
 }
 
 // Behind a key: a number of so many hexadecimal digits and LF.
@@ -66,7 +67,7 @@ fn put_hex_end(buffer: &mut [u8], at: usize, width: usize, n: u64) -> usize
     ensures { Put buffer.old at (text_of (hex_slots width n ++ lf)) buffer.new result }
 {
     let end = put_hex(buffer, at, width, n);
-    put_byte(buffer, end, 10)
+    put_byte(buffer, end, b'\n')
 }
 
 // A name, a number below 100, `=`, and such a number.
@@ -75,7 +76,7 @@ fn put_field(buffer: &mut [u8], at: usize, name: &[u8], k: usize, width: usize, 
     ensures { Put buffer.old at (text_of (line name.now k width n)) buffer.new result }
 {
     let named = put_text(buffer, at, name);
-    let keyed = put_count(buffer, named, 61, k);
+    let keyed = put_count(buffer, named, b'=', k);
     put_hex_end(buffer, keyed, width, n)
 }
 
@@ -85,10 +86,8 @@ fn put_fair(buffer: &mut [u8], at: usize, fair: &[u64]) -> usize
     ensures { Put buffer.old at (text_of (lines_below (length fair.now) (fair_line fair.now))) buffer.new result }
 {
     let mut end = at;
-    let mut k = 0;
-    while k < fair.len() {
-        end = put_field(buffer, end, b"j", k, 16, fair[k]);
-        k += 1;
+    for (k, &set) in fair.iter().enumerate() {
+        end = put_field(buffer, end, b"j", k, 16, set);
     }
     end
 }
@@ -98,7 +97,7 @@ fn put_row(buffer: &mut [u8], at: usize, width: usize, k: usize, label: u16, nex
     requires { (k < 100) × (at + length (row_line width k label next) ≤ length buffer.old) }
     ensures { Put buffer.old at (text_of (row_line width k label next)) buffer.new result }
 {
-    let behind = put_field(buffer, at, b"label", k, width, words::wide(label));
+    let behind = put_field(buffer, at, b"label", k, width, u64::from(label));
     put_field(buffer, behind, b"next", k, 16, next)
 }
 
@@ -109,10 +108,8 @@ fn put_rows(buffer: &mut [u8], at: usize, width: usize, label: &[u16], next: &[u
     ensures { Put buffer.old at (text_of (lines_below (length label.now) (row_lines width label.now next.now))) buffer.new result }
 {
     let mut end = at;
-    let mut k = 0;
-    while k < label.len() {
+    for k in 0..label.len() {
         end = put_row(buffer, end, width, k, label[k], next[k]);
-        k += 1;
     }
     end
 }

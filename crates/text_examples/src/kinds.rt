@@ -6,16 +6,14 @@ ghost use Rattle.std.specs.Prelude.{◌≤◌};
 use crate::show;
 use crate::show::{digits, end, put, tell};
 use answers::Outcome;
-use cases::find;
 
 // The outcome of a text, a log's or a table's.
 fn outcome_of(text: &[u8], is_log: bool) -> Outcome {
     if is_log {
-        let read = event_log::read_log(text, 8);
-        return read.outcome;
+        event_log::read_log(text, 8).outcome
+    } else {
+        plant::read_table(text).outcome
     }
-    let read = plant::read_table(text);
-    read.outcome
 }
 
 fn one<P: Print>(to: &P, text: &[u8]) {
@@ -24,50 +22,38 @@ fn one<P: Print>(to: &P, text: &[u8]) {
 }
 
 fn prefixes<P: Print>(to: &P, text: &[u8], is_log: bool) {
-    let mut n = 0;
-    while n < text.len() {
+    for n in 0..text.len() {
         digits(to, n);
         tell(to, outcome_of(&text[..n], is_log));
         end(to);
-        n += 1;
     }
 }
 
 // A copy of the text's first 256 bytes, with one byte put in place of another.
 fn with_byte(text: &[u8], at: usize, byte: u8) -> [u8; 256] {
-    let mut copy = [0u8; 256];
-    let mut i = 0;
-    while i < text.len() {
-        if i < 256 {
-            copy[i] = if i == at { byte } else { text[i] };
-        }
-        i += 1;
+    let mut copy = [0; 256];
+    let n = text.len().min(256);
+    copy[..n].copy_from_slice(&text[..n]);
+    if at < n {
+        copy[at] = byte;
     }
     copy
 }
 
-fn at_most_256(n: usize) -> usize
-    ensures { result ≤ 256 }
-{
-    if n < 256 { n } else { 256 }
-}
-
 fn changed<P: Print>(to: &P, text: &[u8], at: usize, byte: u8, is_log: bool) {
     let copy = with_byte(text, at, byte);
-    let n = at_most_256(text.len());
+    let n = text.len().min(256);
     tell(to, outcome_of(&copy[..n], is_log));
 }
 
 // Each byte changed to the digit 9, and to one that stands in no text: the letter g, the byte 0, CR and the byte 255 in turn.
 fn changes<P: Print>(to: &P, text: &[u8], is_log: bool) {
     let strange = [b'g', 0, b'\r', 255];
-    let mut at = 0;
-    while at < text.len() {
+    for at in 0..text.len() {
         digits(to, at);
         changed(to, text, at, b'9', is_log);
         changed(to, text, at, strange[at % 4], is_log);
         end(to);
-        at += 1;
     }
 }
 
@@ -91,11 +77,13 @@ fn case<P: Print>(to: &P, kind: u8, text: &[u8]) {
 }
 
 pub fn each<P: Print>(to: &P, input: &[u8]) {
-    let mut at = 0;
-    while at < input.len() {
-        let start = at + 1;
-        let end = find(input, start, input.len(), b'#');
-        case(to, input[at], &input[start..end]);
-        at = if end < input.len() { end + 1 } else { end };
+    let mut rest = input;
+    while let Some((&kind, behind)) = rest.split_first() {
+        let end = behind
+            .iter()
+            .position(|&byte| byte == b'#')
+            .unwrap_or(behind.len());
+        case(to, kind, &behind[..end]);
+        rest = behind.get(end + 1..).unwrap_or(&[]);
     }
 }

@@ -32,35 +32,19 @@ pub fn tell<P: Print>(to: &P, outcome: Outcome) {
     match outcome {
         Outcome::Accepted => put(to, b" ok"),
         Outcome::Refused(refusal) => {
-            let kind = refusal.kind;
-            number(to, b" ", kind.number() as usize);
+            number(to, b" ", usize::from(refusal.kind.number()));
             number(to, b"@", refusal.place);
         }
     }
 }
 
-fn sets<P: Print>(to: &P, name: &[u8], list: &[u64]) {
+// Sets behind their name, of states or of propositions.
+fn sets<P: Print, T: Copy + Into<u64>>(to: &P, name: &[u8], list: &[T]) {
     put(to, name);
-    let mut k = 0;
-    while k < list.len() {
-        set(to, list[k]);
-        k += 1;
+    for &x in list {
+        set(to, x.into());
     }
     end(to);
-}
-
-fn labels<P: Print>(to: &P, list: &[u16]) {
-    put(to, b"label");
-    let mut k = 0;
-    while k < list.len() {
-        set(to, wide(list[k]));
-        k += 1;
-    }
-    end(to);
-}
-
-fn wide(x: u16) -> u64 {
-    x as u64
 }
 
 fn counts<P: Print>(to: &P, plant: Plant) {
@@ -74,31 +58,24 @@ fn counts<P: Print>(to: &P, plant: Plant) {
 // The outcome of a table's text, and the whole table that stands beside it.
 pub fn table<P: Print>(to: &P, text: &[u8]) {
     let read = plant::read_table(text);
-    let outcome = read.outcome;
-    let table = read.table;
-    let plant = table.plant;
-    tell(to, outcome);
+    tell(to, read.outcome);
     end(to);
-    counts(to, plant);
+    counts(to, read.table.plant);
     end(to);
-    sets(to, b"j", &table.fair);
-    labels(to, &table.label);
-    sets(to, b"next", &table.next);
+    sets(to, b"j", &read.table.fair);
+    sets(to, b"label", &read.table.label);
+    sets(to, b"next", &read.table.next);
 }
 
 fn event<P: Print>(to: &P, text: &[u8], line: usize, props: usize) {
     let event = event_log::event_at(text, line, props);
-    let num = event.num;
     put(to, b" ");
-    match num {
-        Num::Expected => put(to, b""),
-        Num::Given(n) => {
-            digits(to, n as usize);
-            put(to, b":");
-        }
+    if let Num::Given(n) = event.num {
+        digits(to, n as usize);
+        put(to, b":");
     }
-    digits(to, event.see as usize);
-    number(to, b"/", event.val as usize);
+    digits(to, usize::from(event.see));
+    number(to, b"/", usize::from(event.val));
     if event.new {
         put(to, b"/new");
     }
@@ -107,13 +84,11 @@ fn event<P: Print>(to: &P, text: &[u8], line: usize, props: usize) {
 // The outcome of a log's text for so many propositions, its number of lines, and the events of its first four lines.
 pub fn log<P: Print>(to: &P, text: &[u8], props: usize) {
     let read = event_log::read_log(text, props);
-    let outcome = read.outcome;
-    tell(to, outcome);
+    tell(to, read.outcome);
     number(to, b" lines=", read.lines);
-    event(to, text, 0, props);
-    event(to, text, 1, props);
-    event(to, text, 2, props);
-    event(to, text, 3, props);
+    for line in 0..4 {
+        event(to, text, line, props);
+    }
     end(to);
 }
 

@@ -11,8 +11,8 @@ unfolding event_as line_or
 returns-then-line-text c =
     let a = c.args in
     let wide = c.bytes_of-bytes.ensures in
-    rw (lt-ltb _ _ (rw wide at c.if-line-text.true)) (lent_line a.text.now _ _ _ _ (ap (λ (n : ℕ). a.line * n) wide ∙ sym (start_is (line_bytes a.numbered a.width) a.line)) c.read_line-read.ensures).is
+    rw (lt-ltb _ _ (rw wide at c.if-line-text.true)) (lent_line a.text.now _ _ _ _ (ap (λ (n : ℕ). a.line * n) wide ∙ sym (start_is (line_bytes a.numbered a.width) a.line)) c.read_line.ensures).is
 
-pub returns : goal.returns
+pub returns-else-line-text : goal.returns-else-line-text
 unfolding event_as line_or
-returns c = rw (le-ltb _ _ (rw c.bytes_of-bytes.ensures at c.if-line-text.false))
+returns-else-line-text c = rw (le-ltb _ _ (rw c.bytes_of-bytes.ensures at c.if-line-text.false))

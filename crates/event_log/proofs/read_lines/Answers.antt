@@ -21,7 +21,7 @@ unfolding read_as
 returns-then-good-bytes c =
     let n = c.args.numbered in
     let w = c.args.width in
-    let read = lent_line {F = line n w} c.args.text.now _ _ _ _ c.loop-at.invariant.1 c.read_line-line.ensures in
+    let read = lent_line {F = line n w} c.args.text.now _ _ _ _ c.loop-at.invariant.1 c.read_line-good.ensures in
     ap refused_with c.at.ensures
     ∙ line_off (line n w) (line_bytes n w) (line_fixed n w) refused_log accepted_log c.args.text.now _ c.loop-at.lines _ _ c.loop-at.invariant.1 c.loop-at.invariant.3 c.loop-at-test.true read (rw c.loop-at.invariant.0 at c.if-good-bytes.true)
 
@@ -29,15 +29,15 @@ pub overflow_add-lines : goal.overflow_add-lines
 overflow_add-lines c =
     let n = c.args.numbered in
     let w = c.args.width in
-    record { fits = omega (arith, room n w c.args.text.now _ _ _ _ c.loop-at.invariant.1 c.read_line-line.ensures, start_above (line_bytes n w) c.loop-at.lines (omega arith)) }
+    record { fits = omega (arith, room n w c.args.text.now _ _ _ _ c.loop-at.invariant.1 c.read_line-good.ensures, start_above (line_bytes n w) c.loop-at.lines (omega arith)) }
 
 pub loop-at-preserved : goal.loop-at-preserved
 loop-at-preserved c =
     let n = c.args.numbered in
     let w = c.args.width in
-    let r = room n w c.args.text.now _ _ _ _ c.loop-at.invariant.1 c.read_line-line.ensures in
+    let r = room n w c.args.text.now _ _ _ _ c.loop-at.invariant.1 c.read_line-good.ensures in
     let wide = c.loop-at.invariant.0 in
-    let read = lent_line {F = line n w} c.args.text.now _ _ _ _ c.loop-at.invariant.1 c.read_line-line.ensures in (
+    let read = lent_line {F = line n w} c.args.text.now _ _ _ _ c.loop-at.invariant.1 c.read_line-good.ensures in (
       wide,
       omega (arith, wide, next_start (line_bytes n w) c.loop-at.lines),
       omega arith,
@@ -50,3 +50,14 @@ returns c =
     let n = c.args.numbered in
     let w = c.args.width in
     line_end (line n w) (line_bytes n w) (line_fixed n w) refused_log accepted_log _ _ c.loop-at.invariant.3 (omega (arith, c.loop-at-test.false, c.loop-at.invariant.1))
+
+-- the text ends with this line
+pub returns-else-good-bytes : goal.returns-else-good-bytes
+unfolding read_as
+returns-else-good-bytes c =
+    let n = c.args.numbered in
+    let w = c.args.width in
+    let wide = c.loop-at.invariant.0 in
+    let read = lent_line {F = line n w} c.args.text.now _ _ _ _ c.loop-at.invariant.1 c.read_line-good.ensures in
+    let fit = line_on (line n w) (line_bytes n w) (line_fixed n w) c.args.text.now c.loop-at.lines _ _ c.loop-at.invariant.3 read (rw wide at c.if-good-bytes.false) in
+    line_end (line n w) (line_bytes n w) (line_fixed n w) refused_log accepted_log _ _ fit (omega (arith, wide, c.loop-at.invariant.1, next_start (line_bytes n w) c.loop-at.lines))

@@ -5,8 +5,8 @@ use Rattle.machine_bytes.proofs.row_byte.Goals as goal
 pub returns-then-i-eq0 : goal.returns-then-i-eq0
 returns-then-i-eq0 c = byte_high _ _ _ _ c.if-i-eq0.true c.joined_output-output.ensures
 
-pub returns-then-i-lt2 : goal.returns-then-i-lt2
-returns-then-i-lt2 c = byte_low _ _ _ _ c.if-i-eq0.false c.if-i-lt2.true c.joined_output-output.ensures
+pub returns-else-i-eq0 : goal.returns-else-i-eq0
+returns-else-i-eq0 c = byte_low _ _ _ _ c.if-i-eq0.false c.if-i-lt2.true c.joined_output-output.ensures
 
-pub returns : goal.returns
-returns c = byte_cell _ _ _ _ c.if-i-lt2.false c.joined_cell.ensures
+pub returns-else-i-lt2 : goal.returns-else-i-lt2
+returns-else-i-lt2 c = byte_cell _ _ _ _ c.if-i-lt2.false c.joined_cell.ensures

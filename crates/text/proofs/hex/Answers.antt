@@ -1,21 +1,19 @@
--- `text::hex`. The loop has read i digits.
+-- `text::hex`. The loop has read _i digits.
+use Rattle.std.proofs.Common.{refl, arith}
 use Rattle.text.specs.After.{cursor_after}
 use Rattle.text.specs.Number.{hex_guess, hex_slots}
-use Prim.Native.Nat.{◌-◌, zero-le}
-use mathlib.Core.Path.{refl}
-use native.Mathlib.Omega.{arith}
 use Rattle.text.specs.Read.{hex_turn, hex_room}
 use Rattle.text.proofs.hex.Goals as goal
 
 pub loop-i-init : goal.loop-i-init
 unfolding hex_guess hex_slots cursor_after
-loop-i-init c = (zero-le, record { is = refl; slots = refl; small = omega arith; at = omega arith })
+loop-i-init c = record { is = refl; slots = refl; small = omega arith; at = omega arith }
 
 pub overflow_mul-value : goal.overflow_mul-value
-overflow_mul-value c = record { fits = omega (arith, hex_room _ _ _ _ 15 _ c.loop-i.invariant.1 (omega arith)) }
+overflow_mul-value c = record { fits = omega (arith, hex_room _ _ _ _ 15 _ c.loop-i.invariant (omega arith)) }
 
 pub overflow_add-value : goal.overflow_add-value
-overflow_add-value c = record { fits = omega (arith, hex_room _ _ _ _ 15 _ c.loop-i.invariant.1 (omega arith)) }
+overflow_add-value c = record { fits = omega (arith, hex_room _ _ _ _ 15 _ c.loop-i.invariant (omega arith)) }
 
 pub loop-i-preserved : goal.loop-i-preserved
-loop-i-preserved c = (omega arith, hex_turn _ _ _ _ _ _ _ c.loop-i.invariant.1.at c.loop-i.invariant.1 c.digit-x.ensures)
+loop-i-preserved c = hex_turn _ _ _ _ _ _ _ c.loop-i.invariant.at c.loop-i.invariant c.digit-x.ensures

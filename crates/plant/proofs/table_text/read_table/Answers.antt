@@ -1,19 +1,20 @@
 -- `plant::table_text::read_table`. Each return is a case of `read_as`.
-use mathlib.Core.Path.{ap, sym, ◌∙◌}
+use Rattle.std.proofs.Common.{ap, sym, ◌∙◌, arith}
+use Rattle.std.proofs.lemmas.Grind.{common_steps}
 use Rattle.plant.specs.Read.{refused_read, read_unfit, read_fits}
 use Rattle.plant.proofs.table_text.read_table.Goals as goal
 
-pub returns-then-end-text : goal.returns-then-end-text
-returns-then-end-text c =
-    c.refused.ensures ∙ ap refused_read c.at.ensures ∙ read_unfit _ _ _ c.parse-p.ensures c.if-end-text.true
+pub returns-then-end : goal.returns-then-end
+returns-then-end c =
+    c.refused.ensures ∙ ap refused_read c.at.ensures ∙ read_unfit _ _ _ c.parse.ensures (grind (arith, common_steps))
 
 pub returns-in-Accepted : goal.returns-in-Accepted
 returns-in-Accepted c =
     let told = c.in-Accepted.is in
-    rw told (read_fits _ _ _ c.parse-p.ensures _ c.if-end-text.false (sym told ∙ c.check_read-outcome.ensures))
+    rw told (read_fits _ _ _ c.parse.ensures _ (grind (arith, common_steps)) (sym told ∙ c.check_read-outcome.ensures))
 
 pub returns-in-Refused : goal.returns-in-Refused
 returns-in-Refused c =
     let told = c.in-Refused.is in
     c.refused-in-Refused.ensures
-    ∙ read_fits _ _ _ c.parse-p.ensures _ c.if-end-text.false (sym told ∙ c.check_read-outcome.ensures)
+    ∙ read_fits _ _ _ c.parse.ensures _ (grind (arith, common_steps)) (sym told ∙ c.check_read-outcome.ensures)

@@ -7,4 +7,4 @@ use Rattle.plant_writer.proofs.lines.put_row.Goals as goal
 pub returns : goal.returns
 returns c =
     let a = c.args in
-    puts_slots (line label_name a.k a.width a.label) (line next_name a.k 16 a.next) (rw c.wide.ensures at c.put_field-behind.ensures) c.put_field.ensures
+    puts_slots (line label_name a.k a.width a.label) (line next_name a.k 16 a.next) (rw c.from.ensures at c.put_field-behind.ensures) c.put_field.ensures

@@ -1,9 +1,0 @@
--- Each prefix is within the text.
-use Rattle.std.proofs.Common.{◌≤◌, ◌-◌, length}
-use Rattle.text_examples.proofs.kinds.prefixes.Given as goal
-
-abbrev pub invariant-loop-n : goal.invariant-loop-n
-invariant-loop-n g l = l.n ≤ length l.text
-
-abbrev pub decreases-loop-n : goal.decreases-loop-n
-decreases-loop-n g l = length l.text - l.n

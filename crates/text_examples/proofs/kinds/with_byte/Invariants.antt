@@ -1,9 +1,0 @@
--- What is written is within the copy.
-use Rattle.std.proofs.Common.{◌≤◌, ◌-◌, length}
-use Rattle.text_examples.proofs.kinds.with_byte.Given as goal
-
-abbrev pub invariant-loop-i : goal.invariant-loop-i
-invariant-loop-i l = l.i ≤ length l.text
-
-abbrev pub decreases-loop-i : goal.decreases-loop-i
-decreases-loop-i l = length l.text - l.i

@@ -1,9 +1,0 @@
--- Each label is there.
-use Rattle.std.proofs.Common.{◌≤◌, ◌-◌, length}
-use Rattle.text_examples.proofs.show.labels.Given as goal
-
-abbrev pub invariant-loop-k : goal.invariant-loop-k
-invariant-loop-k g l = l.k ≤ length l.list
-
-abbrev pub decreases-loop-k : goal.decreases-loop-k
-decreases-loop-k g l = length l.list - l.k
