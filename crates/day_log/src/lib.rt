@@ -41,8 +41,7 @@ pub fn note_log(
     for n in 0..lines {
         let event = event_log::event_at(text, n, plant.props);
         let noted = note(plant, fair, label, next, rule, live, now, day, event);
-        let answer = noted.answer;
-        match answer {
+        match noted.answer {
             Answer::Refused(refusal) => {
                 return DayWent {
                     outcome: Outcome::Refused(refusal),

@@ -42,9 +42,7 @@ fn unseen(
             now,
             Event::NOTHING,
         );
-        let shown = lamp(now);
-        let verdict = shown.verdict;
-        day = noted(day, false, from + k, verdict);
+        day = noted(day, false, from + k, lamp(now).verdict);
     }
     day
 }
@@ -84,8 +82,7 @@ pub fn sheet_after(
     requires { Ready label.now rule }
     ensures { result ≡ sheet_in label.now next.now (ways_of label.now rule) live monitor sheet event verdict }
 {
-    let num = event.num;
-    let number = number_of(num, monitor.expected);
+    let number = number_of(event.num, monitor.expected);
     let gap = missing(monitor.seen, monitor.expected, number);
     let day = caught_up(label, next, rule, live, monitor, sheet, number - gap, gap);
     noted(day, event.new | !monitor.seen, number, verdict)

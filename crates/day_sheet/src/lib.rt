@@ -32,18 +32,18 @@ pub struct Noted {
 fn overfull(plant: Plant, fair: &[u64], label: &[u16], next: &[u64], rule: Rule) -> Refusal
     ensures { result ≡ overfull_by (input_outcome plant fair.now label.now next.now rule) }
 {
-    let outcome = checks::check_input(plant, fair, label, next, rule);
-    match outcome {
+    match checks::check_input(plant, fair, label, next, rule) {
         Outcome::Refused(refusal) => refusal,
         Outcome::Accepted => Refusal::at(Kind::Value, 0),
     }
 }
 
 // Whether a sheet has no room for the stretch that an event begins: a restart does, and the first event of a monitor.
+#[tactic(auto, unfolding(crate::specs::Calls::is_full))]
 fn is_full(sheet: DaySheet, seen: bool, new: bool) -> bool
     ensures { result ≡ is_full sheet seen new }
 {
-    (sheet.count == DaySheet::STRETCHES) & (new | !seen)
+    sheet.count == DaySheet::STRETCHES && (new || !seen)
 }
 
 // Behind a step: where it was accepted, there must be room for the stretch that its event begins, and all that the event brings is noted.
@@ -61,9 +61,7 @@ fn after_step(
     ensures { result ≡ note_by stepped stepped.answer (is_full sheet monitor.seen event.new) monitor sheet
         (sheet_in label.now next.now (ways_of label.now rule) live monitor sheet event) }
 {
-    let answer = stepped.answer;
-    let after = stepped.monitor;
-    match answer {
+    match stepped.answer {
         Answer::Refused(refusal) => Noted {
             answer: Answer::Refused(refusal),
             monitor,
@@ -78,11 +76,10 @@ fn after_step(
                     sheet,
                 };
             }
-            let verdict = lamp.verdict;
             Noted {
                 answer: Answer::Shown(lamp),
-                monitor: after,
-                sheet: sheet_after(label, next, rule, live, monitor, sheet, event, verdict),
+                monitor: stepped.monitor,
+                sheet: sheet_after(label, next, rule, live, monitor, sheet, event, lamp.verdict),
             }
         }
     }

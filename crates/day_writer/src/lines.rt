@@ -72,10 +72,9 @@ fn put_line(buffer: &mut [u8], at: usize, line: Stretch) -> usize
     ensures text { Put buffer.old at (line_text line) buffer.new result }
     ensures bound { result ≤ at + 105 }
 {
-    let verdict = line.verdict;
     let a = put_field(buffer, at, b"first=", line.first);
     let b = put_field(buffer, a, b" events=", line.events);
-    put_end(buffer, b, verdict, line.decided)
+    put_end(buffer, b, line.verdict, line.decided)
 }
 
 // All lines that the sheet counts, from the buffer's start on.
@@ -83,11 +82,9 @@ pub fn put_lines(buffer: &mut [u8], sheet: DaySheet) -> usize
     requires { (sheet.count ≤ 64) × (length buffer.old ≡ 6720) }
     ensures { Put buffer.old 0 (lines_text sheet.lines sheet.count) buffer.new result }
 {
-    let lines = sheet.lines;
     let mut end = 0;
-    for k in 0..sheet.count {
-        let line = lines[k];
-        end = put_line(buffer, end, line);
+    for line in &sheet.lines[..sheet.count] {
+        end = put_line(buffer, end, *line);
     }
     end
 }

@@ -9,16 +9,13 @@ ghost use Rattle.lamp_lines.specs.Lines.{numbered, lamp_of, byte_lines};
 
 use answers::{Lamp, Refusal, Verdict};
 use report::Line;
-use words::index_of;
 
 fn put_line(out: &mut [u8], at: usize, line: Line) -> usize
     requires { IsPrefixLen line.len line.bytes × (at + 70 ≤ length out.old) }
     ensures text { Put out.old at (take line.len line.bytes) out.new result }
     ensures bound { result ≤ at + 70 }
 {
-    let len = line.len;
-    let bytes = line.bytes;
-    writing::put_text(out, at, &bytes[..len])
+    writing::put_text(out, at, &line.bytes[..line.len])
 }
 
 // The line of a refusal.
@@ -26,8 +23,7 @@ pub fn put_refused(out: &mut [u8], at: usize, refusal: Refusal) -> usize
     requires { at + 70 ≤ length out.old }
     ensures { Put out.old at (refused_text refusal) out.new result }
 {
-    let line = report::refused_line(refusal);
-    put_line(out, at, line)
+    put_line(out, at, report::refused_line(refusal))
 }
 
 // The line of the start, at the buffer's beginning.
@@ -36,23 +32,18 @@ pub fn put_start(out: &mut [u8], lamp: Lamp) -> usize
     ensures text { Put out.old 0 (start_text lamp) out.new result }
     ensures bound { result ≤ 70 }
 {
-    let line = report::start_line(lamp);
-    put_line(out, 0, line)
+    put_line(out, 0, report::start_line(lamp))
 }
 
 fn verdict_of(number: u8) -> Verdict
     ensures { result ≡ numbered number }
 {
-    if number == Verdict::INCONCLUSIVE {
-        return Verdict::Inconclusive;
+    match number {
+        Verdict::INCONCLUSIVE => Verdict::Inconclusive,
+        Verdict::TRUE => Verdict::True,
+        Verdict::FALSE => Verdict::False,
+        _ => Verdict::OutOfModel,
     }
-    if number == Verdict::TRUE {
-        return Verdict::True;
-    }
-    if number == Verdict::FALSE {
-        return Verdict::False;
-    }
-    Verdict::OutOfModel
 }
 
 fn put_lamp(out: &mut [u8], at: usize, number: u64, verdict: u8, left: u8) -> usize
@@ -62,10 +53,9 @@ fn put_lamp(out: &mut [u8], at: usize, number: u64, verdict: u8, left: u8) -> us
 {
     let lamp = Lamp {
         verdict: verdict_of(verdict),
-        left: index_of(left),
+        left: usize::from(left),
     };
-    let line = report::lamp_line(number as usize, lamp);
-    put_line(out, at, line)
+    put_line(out, at, report::lamp_line(number as usize, lamp))
 }
 
 // The lines of `done` events.
@@ -82,10 +72,8 @@ pub fn put_lamps(
     ensures bound { result ≤ at + 70 * done }
 {
     let mut end = at;
-    let mut n = 0;
-    while n < done {
+    for n in 0..done {
         end = put_lamp(out, end, numbers[n], verdicts[n], lefts[n]);
-        n += 1;
     }
     end
 }

@@ -11,11 +11,7 @@ ghost use Rattle.minutes.specs.Minutes.{at_line, minutes_in, minutes_of, no_minu
 use answers::{Outcome, Refusal};
 use day_log::note_log;
 use opened::{Opened, open_texts};
-use pairs::Pairs;
-use plant::{Plant, Table};
-use sides::Monitor;
 use stretches::DaySheet;
-use syntax::Rule;
 
 // Accepted, and the sheet of the whole day; or why not. Beside an event's refusal is the sheet behind the events before it, and beside any other the empty one.
 #[derive(Clone, Copy)]
@@ -40,8 +36,7 @@ pub fn note_texts(table: &[u8], rule: &[u8], log: &[u8]) -> Minutes
     ensures { result ≡ minutes_of table.now rule.now log.now }
 {
     let opened = open_texts(table, rule);
-    let outcome = opened.outcome;
-    match outcome {
+    match opened.outcome {
         Outcome::Refused(refusal) => Minutes::refused(refusal),
         Outcome::Accepted => with_opened(opened, log),
     }
@@ -52,11 +47,7 @@ fn with_opened(opened: Opened, log: &[u8]) -> Minutes
     requires { Lent opened.table }
     ensures { result ≡ minutes_in (log_read (width_of opened.table.plant.props) log.now).outcome opened log.now }
 {
-    let table = opened.table;
-    let plant = table.plant;
-    let read = event_log::read_log(log, plant.props);
-    let outcome = read.outcome;
-    match outcome {
+    match event_log::read_log(log, opened.table.plant.props).outcome {
         Outcome::Refused(refusal) => Minutes::refused(refusal),
         Outcome::Accepted => note_lines(opened, log),
     }
@@ -67,34 +58,24 @@ fn note_lines(opened: Opened, log: &[u8]) -> Minutes
     requires { Lent opened.table }
     ensures { result ≡ minutes_in Accepted opened log.now }
 {
-    let table: Table = opened.table;
-    let plant: Plant = table.plant;
-    let just = plant.just;
-    let states = plant.states;
-    let fair = table.fair;
-    let label = table.label;
-    let next = table.next;
-    let rule: Rule = opened.rule;
-    let live: Pairs = opened.live;
-    let monitor: Monitor = opened.monitor;
+    let table = opened.table;
+    let plant = table.plant;
     let day = DaySheet::empty();
     let went = note_log(
         plant,
-        &fair[..just],
-        &label[..states],
-        &next[..states],
-        rule,
-        live,
-        monitor,
+        &table.fair[..plant.just],
+        &table.label[..plant.states],
+        &table.next[..plant.states],
+        opened.rule,
+        opened.live,
+        opened.monitor,
         day,
         log,
     );
-    let outcome = went.outcome;
-    let sheet = went.sheet;
     let offset = went.done * event_log::line_bytes(log, plant.props);
     Minutes {
-        outcome: at_line(outcome, offset),
-        sheet,
+        outcome: at_line(went.outcome, offset),
+        sheet: went.sheet,
     }
 }
 
@@ -103,9 +84,6 @@ fn at_line(outcome: Outcome, offset: usize) -> Outcome
 {
     match outcome {
         Outcome::Accepted => Outcome::Accepted,
-        Outcome::Refused(refusal) => {
-            let kind = refusal.kind;
-            Outcome::Refused(Refusal::at(kind, offset))
-        }
+        Outcome::Refused(refusal) => Outcome::Refused(Refusal::at(refusal.kind, offset)),
     }
 }

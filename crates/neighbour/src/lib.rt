@@ -73,8 +73,7 @@ fn judge_runs(table: &[u8], rule: &[u8], log: &[u8], report: Report) -> Judged
     ensures { result ≡ judged_of table.now rule.now log.now report }
 {
     let end = to_end(table, rule, log);
-    let answer = end.answer;
-    match answer {
+    match end.answer {
         LogAnswer::Refused(refusal) => Judged::Refused(refusal),
         LogAnswer::Stopped(stop) => Judged::Stopped(stop),
         LogAnswer::Watched(_) => at_end(end.table, end.rule, log, end.last, report),
@@ -86,15 +85,11 @@ fn at_end(table: Table, rule: Rule, log: &[u8], last: Monitor, report: Report) -
     requires { Lent table × (rule.len ≤ 32) × Sized report }
     ensures { result ≡ judged_after table rule log.now last report }
 {
-    let claim = report.claim;
-    let keeping = report.keeping;
-    let breaking = report.breaking;
-    let outcome = check_report(claim, keeping.long, breaking.long);
+    let outcome = check_report(report.claim, report.keeping.long, report.breaking.long);
     let shown = lamp(last);
-    let verdict = shown.verdict;
     match outcome {
         Outcome::Refused(refusal) => Judged::Refused(refusal),
-        Outcome::Accepted => with_verdict(table, rule, log, verdict, report),
+        Outcome::Accepted => with_verdict(table, rule, log, shown.verdict, report),
     }
 }
 
@@ -103,17 +98,12 @@ fn with_verdict(table: Table, rule: Rule, log: &[u8], verdict: Verdict, report: 
     requires { Lent table × (rule.len ≤ 32) × Sized report }
     ensures { result ≡ judged_with table rule log.now verdict report }
 {
-    let plant: Plant = table.plant;
-    let just = plant.just;
-    let states = plant.states;
-    let fair = table.fair;
-    let label = table.label;
-    let next = table.next;
+    let plant = table.plant;
     judge_both(
         plant,
-        &fair[..just],
-        &label[..states],
-        &next[..states],
+        &table.fair[..plant.just],
+        &table.label[..plant.states],
+        &table.next[..plant.states],
         rule,
         log,
         verdict,
@@ -137,14 +127,30 @@ fn judge_both(
         (event_at (width_of plant.props) log.now) (whole_lines (width_of plant.props) log.now) verdict report }
 {
     let claim = report.claim;
-    let keeping: ShownRun = report.keeping;
-    let breaking: ShownRun = report.breaking;
     let mark = mark_of(log, plant.props);
     let first = look_at(
-        plant, fair, label, next, rule, log, mark, claim, true, keeping,
+        plant,
+        fair,
+        label,
+        next,
+        rule,
+        log,
+        mark,
+        claim,
+        true,
+        report.keeping,
     );
     let second = look_at(
-        plant, fair, label, next, rule, log, mark, claim, false, breaking,
+        plant,
+        fair,
+        label,
+        next,
+        rule,
+        log,
+        mark,
+        claim,
+        false,
+        report.breaking,
     );
     decide(claim, verdict, first, second)
 }
@@ -169,8 +175,6 @@ fn look_at(
     if !needs(claim, keeps) {
         return Found::Correct;
     }
-    let states = run.states;
-    let len = run.len;
     check_run(
         plant,
         fair,
@@ -180,16 +184,17 @@ fn look_at(
         log,
         mark,
         keeps,
-        &states[..len],
+        &run.states[..run.len],
         run.stem,
     )
 }
 
 // Whether the verdict is as claimed. Two right runs prove that it is inconclusive.
+#[tactic(auto, unfolding(crate::specs::Judged::confirmed_by))]
 fn confirms(claim: u8, verdict: Verdict) -> bool
     ensures { result ≡ confirmed_by claim verdict }
 {
-    (claim == Verdict::INCONCLUSIVE) | (claim == verdict.number())
+    claim == Verdict::INCONCLUSIVE || claim == verdict.number()
 }
 
 // By what was found of the two runs.

@@ -40,10 +40,7 @@ impl ShownRun {
 fn is_long(stem: usize, turn: usize) -> bool
     ensures { result ≡ ltb 4096 (stem + turn) }
 {
-    if ShownRun::MOST < stem {
-        return true;
-    }
-    ShownRun::MOST - stem < turn
+    ShownRun::MOST < stem || ShownRun::MOST - stem < turn
 }
 
 // The loop behind the stem.
@@ -70,20 +67,20 @@ pub struct Report {
 }
 
 // Whether a claim needs a run of the kind: that it is inconclusive needs both, and that it is true or false the one of that kind.
+#[tactic(auto, unfolding(crate::specs::Report::needs_of))]
 pub fn needs(claim: u8, keeps: bool) -> bool
     ensures { result ≡ needs_of claim keeps }
 {
-    if keeps {
-        return (claim == Verdict::INCONCLUSIVE) | (claim == Verdict::TRUE);
-    }
-    (claim == Verdict::INCONCLUSIVE) | (claim == Verdict::FALSE)
+    let of_kind = if keeps { Verdict::TRUE } else { Verdict::FALSE };
+    claim == Verdict::INCONCLUSIVE || claim == of_kind
 }
 
 // Whether a run that is needed is too long.
+#[tactic(auto, unfolding(crate::specs::Report::too_long))]
 fn too_long(claim: u8, keeping: bool, breaking: bool) -> bool
     ensures { result ≡ too_long claim keeping breaking }
 {
-    (needs(claim, true) & keeping) | (needs(claim, false) & breaking)
+    keeping && needs(claim, true) || breaking && needs(claim, false)
 }
 
 // 9 for a claim that is no verdict's number, and 22 for a run that is needed and too long.

@@ -65,9 +65,8 @@ fn put_lamp(line: Line, lamp: Lamp) -> Line
     requires { line.len + 48 ≤ 70 }
     ensures text { PutOn line (shown_text lamp) result }
 {
-    let verdict = lamp.verdict;
     let a = put(line, b" verdict=");
-    let b = put_word(a, verdict);
+    let b = put_word(a, lamp.verdict);
     let c = put(b, b" left=");
     let d = put_number(c, lamp.left as u64);
     put(d, b"\n")
@@ -78,13 +77,10 @@ fn put_refusal(line: Line, refusal: Refusal) -> Line
     requires { line.len + 56 ≤ 70 }
     ensures text { PutOn line (refused_text refusal) result }
 {
-    let kind = refusal.kind;
-    let number = kind.number() as u64;
-    let place = refusal.place as u64;
     let a = put(line, b"refused=");
-    let b = put_number(a, number);
+    let b = put_number(a, u64::from(refusal.kind.number()));
     let c = put(b, b" place=");
-    let d = put_number(c, place);
+    let d = put_number(c, refusal.place as u64);
     put(d, b"\n")
 }
 

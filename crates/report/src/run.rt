@@ -6,7 +6,6 @@ ghost use Rattle.report.specs.Line.{Put};
 
 use crate::Line;
 use crate::pieces::{put_decimal, put_kind};
-use words::of_byte;
 use writing::put_text;
 
 impl Line {
@@ -21,10 +20,10 @@ fn put_state(buffer: &mut [u8], at: usize, first: bool, state: u8) -> usize
     ensures bound { result ≤ at + 4 }
 {
     if first {
-        return put_decimal(buffer, at, of_byte(state));
+        return put_decimal(buffer, at, u64::from(state));
     }
     let behind = put_text(buffer, at, b",");
-    put_decimal(buffer, behind, of_byte(state))
+    put_decimal(buffer, behind, u64::from(state))
 }
 
 fn put_states(buffer: &mut [u8], at: usize, states: &[u8]) -> usize
@@ -33,10 +32,8 @@ fn put_states(buffer: &mut [u8], at: usize, states: &[u8]) -> usize
     ensures bound { result ≤ at + 4 * length states.now }
 {
     let mut end = at;
-    let mut i = 0;
-    while i < states.len() {
-        end = put_state(buffer, end, i == 0, states[i]);
-        i += 1;
+    for (i, &state) in states.iter().enumerate() {
+        end = put_state(buffer, end, i == 0, state);
     }
     end
 }

@@ -1,8 +1,9 @@
 -- One turn of each loop over a text.
 use Prim.Native.Nat.{ℕ, ◌+◌, ◌≤◌, ◌<◌}
 use mathlib.Core.Bool.{Bool, true, false, cond}
-use mathlib.Core.Path.{◌≡◌, sym, ap, ◌∙◌}
-use mathlib.Core.List.{List, ◌∷◌}
+use mathlib.Core.Path.{◌≡◌, refl, sym, ap, ◌∙◌}
+use mathlib.Core.List.{List, [], ◌∷◌}
+use Rattle.std.proofs.Common.{fold}
 use native.Mathlib.Numerals.{add-one}
 use lib.ListN.{length, get_or, drop, drop_of_length-le}
 use lib.Seq.{drop-cons}
@@ -15,14 +16,10 @@ byte s at h = rw (add-one, drop-cons s at 0)
 
 -- ---- known bytes
 
-pub word_turn : (s known : List ℕ) (d e : Cursor) (i : ℕ) → i < length known → e ≡ byte_taken s d (get_or known i 0)
-    → word_from s e (drop (i + 1) known) ≡ word_from s d (drop i known)
+pub word_by_fold : (s : List ℕ) (c : Cursor) (known : List ℕ) → fold (byte_taken s) c known ≡ word_from s c known
 unfolding word_from
-word_turn s known d e i h is = ap (λ (x : Cursor). word_from s x (drop (i + 1) known)) is ∙ sym (ap (word_from s d) (byte known i h))
-
-pub word_done : (s known : List ℕ) (d : Cursor) (i : ℕ) → length known ≤ i → d ≡ word_from s d (drop i known)
-unfolding word_from
-word_done s known d i h = sym (ap (word_from s d) (drop_of_length-le known {i = i} h))
+word_by_fold s c [] = refl
+word_by_fold s c (b ∷ known) = word_by_fold s (byte_taken s c b) known
 
 -- ---- a list
 

@@ -87,45 +87,37 @@ pub enum ReportRead {
 }
 
 // One known byte.
+#[tactic(auto, unfolding(crate::specs::Form::byte_taken))]
 fn step(text: &[u8], c: Cursor, b: u8) -> Cursor
     ensures { result ≡ byte_taken text.now c b }
 {
-    let at = c.at;
-    if at < text.len() {
-        if c.ok & (text[at] == b) {
-            return Cursor {
-                ok: true,
-                at: at + 1,
-            };
-        }
+    if c.at < text.len() && c.ok && text[c.at] == b {
+        return Cursor {
+            ok: true,
+            at: c.at + 1,
+        };
     }
-    Cursor { ok: false, at }
+    Cursor { ok: false, ..c }
 }
 
 // Known bytes.
 fn word(text: &[u8], c: Cursor, known: &[u8]) -> Cursor
     ensures { result ≡ word_from text.now c known.now }
 {
-    let mut d = c;
-    let mut i = 0;
-    while i < known.len() {
-        d = step(text, d, known[i]);
-        i += 1;
-    }
-    d
+    known.iter().fold(c, |d, b| step(text, d, *b))
 }
 
 fn is_digit(b: u8) -> bool
     ensures { result ≡ is_digit b }
 {
-    (47 < b) & (b < 58)
+    b.is_ascii_digit()
 }
 
 // Whether a list goes on with the byte: with a digit, and behind a digit with a comma.
 fn goes_on(inside: bool, b: u8) -> bool
     ensures { result ≡ goes_on inside b }
 {
-    is_digit(b) | (inside & (b == b','))
+    is_digit(b) || inside && b == b','
 }
 
 // The list that began at the cursor ends at a place. It may have no state, but it does not end with a comma.
@@ -133,7 +125,7 @@ fn list_end(c: Cursor, inside: bool, at: usize) -> Cursor
     ensures { result ≡ list_end c inside at }
 {
     Cursor {
-        ok: inside | (at == c.at),
+        ok: inside || at == c.at,
         at,
     }
 }
@@ -146,57 +138,48 @@ fn list(text: &[u8], c: Cursor) -> Cursor
         return c;
     }
     let mut inside = false;
-    let mut at = c.at;
-    while at < text.len() {
-        let b = text[at];
-        if !goes_on(inside, b) {
+    for at in c.at..text.len() {
+        if !goes_on(inside, text[at]) {
             return list_end(c, inside, at);
         }
-        inside = is_digit(b);
-        at += 1;
+        inside = is_digit(text[at]);
     }
-    list_end(c, inside, at)
+    list_end(c, inside, c.at.max(text.len()))
 }
 
 // The verdict whose word begins with the byte. What begins none is taken for the last, which then does not fit.
+#[tactic(auto, unfolding(crate::specs::Form::claim_by))]
 fn claim_by(b: u8) -> u8
     ensures { result ≡ claim_by b }
 {
-    if b == b'i' {
-        return 0;
+    match b {
+        b'i' => 0,
+        b't' => 1,
+        b'f' => 2,
+        _ => 3,
     }
-    if b == b't' {
-        return 1;
-    }
-    if b == b'f' {
-        return 2;
-    }
-    3
 }
 
 // The word of a verdict, and LF.
+#[tactic(auto, unfolding(crate::specs::Form::verdict_from))]
 fn verdict(text: &[u8], c: Cursor, claim: u8) -> Cursor
     ensures { result ≡ verdict_from text.now c claim }
 {
-    if claim == 0 {
-        return word(text, c, b"inconclusive\n");
+    match claim {
+        0 => word(text, c, b"inconclusive\n"),
+        1 => word(text, c, b"true\n"),
+        2 => word(text, c, b"false\n"),
+        _ => word(text, c, b"out-of-model\n"),
     }
-    if claim == 1 {
-        return word(text, c, b"true\n");
-    }
-    if claim == 2 {
-        return word(text, c, b"false\n");
-    }
-    word(text, c, b"out-of-model\n")
 }
 
 // `claim=WORD` and LF.
+#[tactic(auto, using(crate::proofs::Whole::claim_is))]
 fn claim(text: &[u8]) -> Claimed
     ensures { result ≡ claim_of text.now }
 {
     let behind = word(text, Cursor::START, b"claim=");
-    let at = behind.at;
-    let claim = claim_by(byte_at(text, at));
+    let claim = claim_by(byte_at(text, behind.at));
     Claimed {
         claim,
         next: verdict(text, behind, claim),
@@ -241,8 +224,7 @@ fn run_line(text: &[u8], c: Cursor, kind: &[u8]) -> RunRead
     ensures { result ≡ run_line text.now c kind.now }
 {
     let behind = word(text, c, kind);
-    let at = behind.at;
-    if byte_at(text, at) == b'r' {
+    if byte_at(text, behind.at) == b'r' {
         return without(word(text, behind, b"refused=13 place=0\n"));
     }
     shown_run(text, behind)
@@ -252,8 +234,7 @@ fn run_line(text: &[u8], c: Cursor, kind: &[u8]) -> RunRead
 fn run(text: &[u8], c: Cursor, kind: &[u8]) -> RunRead
     ensures { result ≡ run_of text.now c kind.now }
 {
-    let at = c.at;
-    if byte_at(text, at) == byte_at(kind, 0) {
+    if byte_at(text, c.at) == byte_at(kind, 0) {
         return run_line(text, c, kind);
     }
     without(c)
@@ -264,20 +245,15 @@ pub fn read_report(text: &[u8]) -> ReportRead
     ensures { result ≡ report_read text.now }
 {
     let claimed = claim(text);
-    let first = claimed.next;
-    let keeps = run(text, first, b"keeps ");
-    let second = keeps.next;
-    let breaks = run(text, second, b"breaks ");
+    let keeps = run(text, claimed.next, b"keeps ");
+    let breaks = run(text, keeps.next, b"breaks ");
     let end = breaks.next;
-    let keeping = keeps.run;
-    let breaking = breaks.run;
-    let at = end.at;
-    if end.ok & (at == text.len()) {
+    if end.ok & (end.at == text.len()) {
         return ReportRead::Report(ReportParts {
             claim: claimed.claim,
-            keeping,
-            breaking,
+            keeping: keeps.run,
+            breaking: breaks.run,
         });
     }
-    ReportRead::Bad(at)
+    ReportRead::Bad(end.at)
 }

@@ -5,28 +5,22 @@ ghost use Rattle.writing.specs.Put.{Put};
 ghost use Rattle.report_text.specs.States.{with_digit, grown, ends, states_of, part_of};
 
 use crate::Part;
-use words::index_of;
 use writing::put_byte;
 
 // The value of a digit.
 fn digit_of(b: u8) -> u8
     ensures { result ≡ b - 48 }
 {
-    if b < 48 {
-        return 0;
-    }
-    b - 48
+    b.saturating_sub(b'0')
 }
 
 // A number with one digit more, and 255 where it is greater.
+#[tactic(auto, unfolding(crate::specs::States::with_digit))]
 fn with_digit(n: u8, b: u8) -> u8
     ensures { result ≡ with_digit n b }
 {
-    let more = index_of(n) * 10 + index_of(digit_of(b));
-    if 255 < more {
-        return 255;
-    }
-    more as u8
+    let more = u16::from(n) * 10 + u16::from(digit_of(b));
+    u8::try_from(more).unwrap_or(255)
 }
 
 fn is_comma(b: u8) -> bool
@@ -36,13 +30,11 @@ fn is_comma(b: u8) -> bool
 }
 
 // The number that goes on behind a byte: behind a comma another begins.
+#[tactic(auto, unfolding(crate::specs::States::grown))]
 fn grow(n: u8, b: u8) -> u8
     ensures { result ≡ grown n b }
 {
-    if is_comma(b) {
-        return 0;
-    }
-    with_digit(n, b)
+    if is_comma(b) { 0 } else { with_digit(n, b) }
 }
 
 // A state is kept where its number has ended, and as long as there is room.
@@ -50,10 +42,8 @@ fn keep(states: &mut [u8], count: usize, n: u8, ended: bool) -> usize
     requires { count ≤ length states.old }
     ensures { Put states.old count (cond (ended && ltb count (length states.old)) (n ∷ []) []) states.new result }
 {
-    if ended {
-        if count < states.len() {
-            return put_byte(states, count, n);
-        }
+    if ended && count < states.len() {
+        return put_byte(states, count, n);
     }
     count
 }
@@ -62,34 +52,24 @@ fn keep(states: &mut [u8], count: usize, n: u8, ended: bool) -> usize
 fn read_states(list: &[u8], states: &mut [u8]) -> usize
     ensures { Put states.old 0 (take (length states.old) (states_of list.now)) states.new result }
 {
-    if list.len() == 0 {
+    if list.is_empty() {
         return 0;
     }
     let mut count = 0;
     let mut n = 0;
-    let mut at = 0;
-    while at < list.len() {
-        let b = list[at];
+    for &b in list {
         count = keep(states, count, n, is_comma(b));
         n = grow(n, b);
-        at += 1;
     }
     keep(states, count, n, true)
 }
 
 // The bytes of a part; a part that does not fit has none. So there is no `requires`.
+#[tactic(auto, unfolding(crate::specs::States::part_of))]
 fn cut(text: &[u8], part: Part) -> &[u8]
     ensures { result.now ≡ part_of part text.now }
 {
-    let from = part.from;
-    let upto = part.upto;
-    if text.len() < upto {
-        return &text[0..0];
-    }
-    if upto < from {
-        return &text[0..0];
-    }
-    &text[from..upto]
+    text.get(part.from..part.upto).unwrap_or(&[])
 }
 
 // The states of the list that stands there in the text, at the buffer's start; the answer is how many, at most as many as the buffer has bytes.

@@ -110,22 +110,18 @@ fn choose(own: Lines, common: Lines, key: Key) -> Asked
 pub fn ask<'a>(local: &'a [u8], shared: &'a [u8], key: Key) -> Asked
     ensures { result ≡ asked local.now shared.now key }
 {
-    let own = sheet::scan_sheet(local);
-    let common = sheet::scan_sheet(shared);
-    match own {
-        Scan::Bad(place) => Asked::Refused(SheetRefusal {
+    match (sheet::scan_sheet(local), sheet::scan_sheet(shared)) {
+        (Scan::Bad(place), _) => Asked::Refused(SheetRefusal {
             kind: Kind::SheetText,
             sheet: 1,
             place,
         }),
-        Scan::Good(mine) => match common {
-            Scan::Bad(place) => Asked::Refused(SheetRefusal {
-                kind: Kind::SheetText,
-                sheet: 2,
-                place,
-            }),
-            Scan::Good(theirs) => choose(mine, theirs, key),
-        },
+        (_, Scan::Bad(place)) => Asked::Refused(SheetRefusal {
+            kind: Kind::SheetText,
+            sheet: 2,
+            place,
+        }),
+        (Scan::Good(own), Scan::Good(common)) => choose(own, common, key),
     }
 }
 
@@ -134,26 +130,17 @@ fn cut(s: &[u8], spot: Spot) -> &[u8]
     ensures place { result.ref_ptr ≡ shifted s.entry.ref_ptr (fitting spot s.now).from }
     ensures bytes { result.now ≡ bytes_at spot s.now }
 {
-    let from = spot.from;
-    let upto = spot.upto;
-    if s.len() < upto {
-        return &s[0..0];
+    if s.len() < spot.upto || spot.upto < spot.from {
+        return &s[..0];
     }
-    if upto < from {
-        return &s[0..0];
-    }
-    &s[from..upto]
+    &s[spot.from..spot.upto]
 }
 
 // The part at a spot, of the sheet that the spot names.
 fn value<'a>(local: &'a [u8], shared: &'a [u8], spot: Spot) -> &'a [u8]
     ensures { IsPart spot local.entry shared.entry result }
 {
-    let sheet = spot.sheet;
-    if sheet == 1 {
-        return cut(local, spot);
-    }
-    cut(shared, spot)
+    cut(if spot.sheet == 1 { local } else { shared }, spot)
 }
 
 // The bytes of an answer; none where it is a refusal.

@@ -11,8 +11,7 @@ use borrow.Author.Tests.{eqb-true, eqb-false}
 use Rattle.sheet.specs.declared.Lines.{Lines}
 use Rattle.sheet.specs.declared.State.{State}
 use Rattle.sheet.specs.declared.State.TheVariants.{Before, Value, Stuck}
-use Rattle.sheet.specs.declared.Grown.{Grown}
-use Rattle.sheet.specs.declared.Grown.TheVariants.{To, Not}
+use Rattle.std.specs.Prelude.{Option, Some, None}
 use Rattle.sheet.specs.Sheet.{Values, Given, given}
 use Rattle.sheet.specs.Machine.{line_by, begun, key_byte, named, value_grown, further, ended, state_after, stuck, file_as, filed}
 use Rattle.sheet.specs.Value.{FineOf, amount}
@@ -42,11 +41,11 @@ module _ {p : List ℕ} {l : Lines} (b : ℕ) where
       line : (at ≡ 0 → ⊥) → b ≡ 10 → Reached (p ++ b ∷ []) (file_as l k at n) (Before (k + 1))
       line z is = before {k = k + 1} (put k u x) (rw (text, is, a, m) (line_more k s u x l h (given_fine g (omega arith)) d))
 
-      grown : (y : Grown) → value_grown k at n b ≡ y → stuck (further k at y) ≡ false → Reached (p ++ b ∷ []) l (further k at y)
-      grown (To v) q z =
+      grown : (y : Option ℕ) → value_grown k at n b ≡ y → stuck (further k at y) ≡ false → Reached (p ++ b ∷ []) l (further k at y)
+      grown (Some v) q z =
           let f = fine k u b v h g (rw (a, m) at q) in
           giving {at = at + 1} s (u ++ b ∷ []) x h text d (given f.0) (rw a (sym (length-append u (b ∷ [])))) f.1
-      grown Not q z = absurd (false≢true (sym z))
+      grown None q z = absurd (false≢true (sym z))
 
       by_test :
           (t : Bool) → (t ≡ true → b ≡ 10) → stuck (cond t (cond (eqb at 0) Stuck (Before (k + 1))) (further k at (value_grown k at n b))) ≡ false

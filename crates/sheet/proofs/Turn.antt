@@ -13,8 +13,7 @@ use Rattle.sheet.specs.declared.Lines.{Lines}
 use Rattle.sheet.specs.declared.Scan.TheVariants.{Bad}
 use Rattle.sheet.specs.declared.State.{State}
 use Rattle.sheet.specs.declared.State.TheVariants.{Before, Name, Value, Stuck}
-use Rattle.sheet.specs.declared.Grown.{Grown}
-use Rattle.sheet.specs.declared.Grown.TheVariants.{To, Not}
+use Rattle.std.specs.Prelude.{Option, Some, None}
 use Rattle.sheet.specs.Machine.{line_by, begun, key_byte, key_size, named, value_grown, further, ended, state_after, size_of, stuck, filed, scan_from}
 
 -- a text's byte at a place, and the text from the next place on
@@ -42,9 +41,9 @@ small (Value k at m) b n h =
     either (eqb b 10) (λ x. size_of x ≤ n + 1 + 3) _ _
     (λ e. either (eqb at 0) (λ x. size_of x ≤ n + 1 + 3) _ _ (λ f. omega arith) (λ f. omega arith)) (λ e. grown (value_grown k at m b))
   where
-    grown : (g : Grown) → size_of (further k at g) ≤ n + 1 + 3
-    grown (To m) = omega arith
-    grown Not = omega arith
+    grown : (g : Option ℕ) → size_of (further k at g) ≤ n + 1 + 3
+    grown (Some m) = omega arith
+    grown None = omega arith
 small Stuck b n h = omega arith
 
 -- the machine at a byte: stuck, or one place further

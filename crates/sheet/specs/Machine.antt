@@ -5,8 +5,7 @@ use Rattle.sheet.specs.declared.Scan.{Scan}
 use Rattle.sheet.specs.declared.Scan.TheVariants.{Good, Bad}
 use Rattle.sheet.specs.declared.State.{State}
 use Rattle.sheet.specs.declared.State.TheVariants.{Before, Name, Value, Stuck}
-use Rattle.sheet.specs.declared.Grown.{Grown}
-use Rattle.sheet.specs.declared.Grown.TheVariants.{To, Not}
+use Rattle.std.specs.Prelude.{Option, Some, None}
 use Rattle.sheet.specs.Sheet.{edition_key, rule_key, closing_key}
 
 -- ---- a line begins
@@ -34,22 +33,22 @@ named k i = cond (eqb i (key_size k)) (Value k 0 0) (Name k i)
 unfoldable pub lead_zero : ℕ → ℕ → Bool
 lead_zero at n = cond (eqb at 0) false (eqb n 0)
 
-unfoldable pub ranged : ℕ → ℕ → ℕ → Grown
-ranged lo hi n = cond (ltb n lo) Not (cond (ltb hi n) Not (To n))
+unfoldable pub ranged : ℕ → ℕ → ℕ → Option ℕ
+ranged lo hi n = cond (ltb n lo) None (cond (ltb hi n) None (Some n))
 
-unfoldable pub digit_grown : ℕ → ℕ → ℕ → ℕ → ℕ → Grown
+unfoldable pub digit_grown : ℕ → ℕ → ℕ → ℕ → ℕ → Option ℕ
 digit_grown lo hi at n b =
-    cond (ltb b 48) Not (cond (ltb 57 b) Not (cond (ltb 6553 n) Not (cond (lead_zero at n) Not (ranged lo hi (n * 10 + (b - 48))))))
+    cond (ltb b 48) None (cond (ltb 57 b) None (cond (ltb 6553 n) None (cond (lead_zero at n) None (ranged lo hi (n * 10 + (b - 48))))))
 
-unfoldable pub byte_grown : ℕ → ℕ → Grown
-byte_grown at b = cond (ltb b 32) Not (cond (ltb 126 b) Not (cond (leb 512 at) Not (To 0)))
+unfoldable pub byte_grown : ℕ → ℕ → Option ℕ
+byte_grown at b = cond (ltb b 32) None (cond (ltb 126 b) None (cond (leb 512 at) None (Some 0)))
 
-unfoldable pub value_grown : ℕ → ℕ → ℕ → ℕ → Grown
+unfoldable pub value_grown : ℕ → ℕ → ℕ → ℕ → Option ℕ
 value_grown k at n b = cond (eqb k 0) (digit_grown 1 65535 at n b) (cond (eqb k 1) (byte_grown at b) (digit_grown 0 99 at n b))
 
-abbrev pub further : ℕ → ℕ → Grown → State
-further k at (To n) = Value k (at + 1) n
-further k at Not = Stuck
+abbrev pub further : ℕ → ℕ → Option ℕ → State
+further k at (Some n) = Value k (at + 1) n
+further k at None = Stuck
 
 unfoldable pub ended : ℕ → ℕ → State
 ended k at = cond (eqb at 0) Stuck (Before (k + 1))

@@ -1,5 +1,5 @@
 -- What reading a sheet promises. The contract of scan_sheet is an equation, `r ≡ scan_of s`; what that means is said here by specs/Sheet.
-use Rattle.std.specs.Prelude.{ℕ, suc, ◌+◌, ◌≤◌, ◌<◌, ◌≡◌, List, ◌++◌, length, take, drop}
+use Rattle.std.specs.Prelude.{ℕ, suc, ◌≤◌, ◌<◌, ◌≡◌, List, ◌++◌, length, take, drop}
 use Rattle.std.proofs.Common.{append_assoc, ⊎_elim, arith, le_antisymm, take-append-drop, take-take, lt-ltb, le-ltb}
 use Rattle.text.specs.Cases.{below_or_beyond}
 use Rattle.sheet.specs.declared.Lines.{Lines}

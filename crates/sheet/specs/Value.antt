@@ -6,8 +6,7 @@ use mathlib.Core.List.{List, [], ◌∷◌, ◌++◌}
 use native.Mathlib.Omega.{arith}
 use Rattle.std.proofs.Math.ListN.{length-append}
 use borrow.Author.Tests.{le-ltb, ltb-false, lt-leb, leb-false, ne_eqb, eqb-false}
-use Rattle.sheet.specs.declared.Grown.{Grown}
-use Rattle.sheet.specs.declared.Grown.TheVariants.{To, Not}
+use Rattle.std.specs.Prelude.{Option, Some, None}
 use Rattle.sheet.specs.Sheet.{Each, none, more, number_from, number_of, Decimal, Printable, Given, left_out, given}
 use Rattle.sheet.specs.Machine.{lead_zero, ranged, digit_grown, byte_grown}
 
@@ -49,7 +48,7 @@ not_zero : (c : ℕ) (u : List ℕ) → 48 ≤ c → (c ≡ 48 → ⊥) → 0 < 
 unfolding number_from
 not_zero c u l h = omega (arith, number_up (0 * 10 + (c - 48)) u)
 
-ranged_in : (lo hi n : ℕ) → lo ≤ n → n ≤ hi → ranged lo hi n ≡ To n
+ranged_in : (lo hi n : ℕ) → lo ≤ n → n ≤ hi → ranged lo hi n ≡ Some n
 unfolding ranged
 ranged_in lo hi n l h = simp (le-ltb n lo l, le-ltb hi n h)
 
@@ -75,7 +74,7 @@ module _ (lo hi : ℕ) (low : lo ≤ 1) (high : hi ≤ 65535) where
       omega arith
 
   -- a digit of a number is taken
-  pub digit_taken : (u v : List ℕ) (b : ℕ) → Decimal lo hi (u ++ b ∷ v) → digit_grown lo hi (length u) (number_of u) b ≡ To (number_of (u ++ b ∷ []))
+  pub digit_taken : (u v : List ℕ) (b : ℕ) → Decimal lo hi (u ++ b ∷ v) → digit_grown lo hi (length u) (number_of u) b ≡ Some (number_of (u ++ b ∷ []))
   unfolding digit_grown
   digit_taken u v b d =
       let p = each_at u v b d.digits in
@@ -84,13 +83,13 @@ module _ (lo hi : ℕ) (low : lo ≤ 1) (high : hi ≤ 65535) where
       (ranged_in lo hi (number_of u * 10 + (b - 48)) (least_of u v b d) (omega (arith, d.most)))
 
 -- what a test lets pass
-past : (t : Bool) (g : Grown) (m : ℕ) → cond t Not g ≡ To m → (t ≡ false) × (g ≡ To m)
+past : (t : Bool) (g : Option ℕ) (m : ℕ) → cond t None g ≡ Some m → (t ≡ false) × (g ≡ Some m)
 past true g m e = let z : ◌≡◌ {A = ℕ} 0 1 = cc in absurd (omega arith)
 past false g m e = (refl, e)
 
 -- what is taken is a number again
 module _ (lo hi : ℕ) where
-  pub digit_fine : (u : List ℕ) (b m : ℕ) → Given (Decimal lo hi) u → digit_grown lo hi (length u) (number_of u) b ≡ To m → Decimal lo hi (u ++ b ∷ []) × (m ≡ number_of (u ++ b ∷ []))
+  pub digit_fine : (u : List ℕ) (b m : ℕ) → Given (Decimal lo hi) u → digit_grown lo hi (length u) (number_of u) b ≡ Some m → Decimal lo hi (u ++ b ∷ []) × (m ≡ number_of (u ++ b ∷ []))
   unfolding digit_grown ranged lead_zero number_from
   digit_fine u b m g e =
       let n = number_of u * 10 + (b - 48) in
@@ -123,13 +122,13 @@ module _ (lo hi : ℕ) where
 
 -- ---- rules
 
-pub byte_taken_lem : (u v : List ℕ) (b : ℕ) → Printable (u ++ b ∷ v) → byte_grown (length u) b ≡ To 0
+pub byte_taken_lem : (u v : List ℕ) (b : ℕ) → Printable (u ++ b ∷ v) → byte_grown (length u) b ≡ Some 0
 unfolding byte_grown
 byte_taken_lem u v b d =
     let p = each_at u v b d.bytes in
     simp (le-ltb b 32 p.0, le-ltb 126 b p.1, lt-leb 512 (length u) (omega (arith, d.most, length-append u (b ∷ v))))
 
-pub byte_fine : (u : List ℕ) (b m : ℕ) → Given Printable u → byte_grown (length u) b ≡ To m → Printable (u ++ b ∷ []) × (m ≡ 0)
+pub byte_fine : (u : List ℕ) (b m : ℕ) → Given Printable u → byte_grown (length u) b ≡ Some m → Printable (u ++ b ∷ []) × (m ≡ 0)
 unfolding byte_grown
 byte_fine u b m g e =
     let p1 = past (ltb b 32) _ m e in

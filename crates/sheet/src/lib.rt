@@ -27,7 +27,6 @@ ghost use Rattle.sheet.specs.Machine.{
 };
 
 use text::byte_at;
-use words::index_of;
 
 // What was read of a sheet: the lengths of the three values, 0 where there is no such line, and the edition's number, 0 where there is none.
 #[derive(Clone, Copy)]
@@ -86,28 +85,17 @@ pub enum State {
     Stuck,
 }
 
-// The number that a value makes with one byte more, where it may have that byte.
-#[derive(Clone, Copy)]
-pub enum Grown {
-    To(usize),
-    Not,
-}
-
 // The line whose key begins with the byte, and 3 where none does.
 #[tactic(auto, unfolding(crate::specs::Machine::line_by))]
 fn line_by(b: u8) -> usize
     ensures { result ≡ line_by b }
 {
-    if b == b'e' {
-        return 0;
+    match b {
+        b'e' => 0,
+        b'r' => 1,
+        b'c' => 2,
+        _ => 3,
     }
-    if b == b'r' {
-        return 1;
-    }
-    if b == b'c' {
-        return 2;
-    }
-    3
 }
 
 // A line j begins where lines from k on may.
@@ -115,13 +103,11 @@ fn line_by(b: u8) -> usize
 fn begin(k: usize, j: usize) -> State
     ensures { result ≡ begun k j }
 {
-    if j < k {
-        return State::Stuck;
+    if k <= j && j < 3 {
+        State::Name(j, 1)
+    } else {
+        State::Stuck
     }
-    if j < 3 {
-        return State::Name(j, 1);
-    }
-    State::Stuck
 }
 
 // The byte of a line's key at a place.
@@ -129,13 +115,11 @@ fn begin(k: usize, j: usize) -> State
 fn key_byte(k: usize, i: usize) -> u8
     ensures { result ≡ key_byte k i }
 {
-    if k == 0 {
-        return byte_at(b"edition=", i);
+    match k {
+        0 => byte_at(b"edition=", i),
+        1 => byte_at(b"rule=", i),
+        _ => byte_at(b"closing=", i),
     }
-    if k == 1 {
-        return byte_at(b"rule=", i);
-    }
-    byte_at(b"closing=", i)
 }
 
 // How many bytes a line's key has, with the `=`.
@@ -163,85 +147,59 @@ fn name(k: usize, i: usize) -> State
 fn lead_zero(at: usize, n: usize) -> bool
     ensures { result ≡ lead_zero at n }
 {
-    if at == 0 {
-        return false;
-    }
-    n == 0
+    at != 0 && n == 0
 }
 
 // A number within its range.
 #[tactic(auto, unfolding(crate::specs::Machine::ranged))]
-fn range(lo: usize, hi: usize, n: usize) -> Grown
+fn range(lo: usize, hi: usize, n: usize) -> Option<usize>
     ensures { result ≡ ranged lo hi n }
 {
-    if n < lo {
-        return Grown::Not;
-    }
-    if hi < n {
-        return Grown::Not;
-    }
-    Grown::To(n)
+    if lo <= n && n <= hi { Some(n) } else { None }
 }
 
 // A decimal number with one digit more, from lo to hi, where hi is at most 65,535.
 #[tactic(auto, unfolding(crate::specs::Machine::digit_grown))]
-fn grow_digit(lo: usize, hi: usize, at: usize, n: usize, b: u8) -> Grown
+fn grow_digit(lo: usize, hi: usize, at: usize, n: usize, b: u8) -> Option<usize>
     ensures { result ≡ digit_grown lo hi at n b }
 {
-    if b < 48 {
-        return Grown::Not;
+    if !b.is_ascii_digit() || 6553 < n || lead_zero(at, n) {
+        return None;
     }
-    if 57 < b {
-        return Grown::Not;
-    }
-    if 6553 < n {
-        return Grown::Not;
-    }
-    if lead_zero(at, n) {
-        return Grown::Not;
-    }
-    range(lo, hi, n * 10 + index_of(b - 48))
+    range(lo, hi, n * 10 + usize::from(b - b'0'))
 }
 
 // A rule with one byte more.
 #[tactic(auto, unfolding(crate::specs::Machine::byte_grown))]
-fn grow_byte(at: usize, b: u8) -> Grown
+fn grow_byte(at: usize, b: u8) -> Option<usize>
     ensures { result ≡ byte_grown at b }
 {
-    if b < 32 {
-        return Grown::Not;
+    if b < b' ' || b'~' < b || Lines::RULE <= at {
+        return None;
     }
-    if 126 < b {
-        return Grown::Not;
-    }
-    if Lines::RULE <= at {
-        return Grown::Not;
-    }
-    Grown::To(0)
+    Some(0)
 }
 
 // A line's value with one byte more.
 #[tactic(auto, unfolding(crate::specs::Machine::value_grown))]
-fn grow(k: usize, at: usize, n: usize, b: u8) -> Grown
+fn grow(k: usize, at: usize, n: usize, b: u8) -> Option<usize>
     ensures { result ≡ value_grown k at n b }
 {
-    if k == 0 {
-        return grow_digit(Lines::FIRST, Lines::EDITION, at, n, b);
+    match k {
+        0 => grow_digit(Lines::FIRST, Lines::EDITION, at, n, b),
+        1 => grow_byte(at, b),
+        _ => grow_digit(0, Lines::CLOSING, at, n, b),
     }
-    if k == 1 {
-        return grow_byte(at, b);
-    }
-    grow_digit(0, Lines::CLOSING, at, n, b)
 }
 
 // The state behind a value's byte.
-fn value(k: usize, at: usize, grown: Grown) -> State
+fn value(k: usize, at: usize, grown: Option<usize>) -> State
     requires { at < 4096 }
     ensures { result ≡ further k at grown }
 {
     match grown {
-        Grown::To(n) => State::Value(k, at + 1, n),
-        Grown::Not => State::Stuck,
+        Some(n) => State::Value(k, at + 1, n),
+        None => State::Stuck,
     }
 }
 
@@ -275,7 +233,7 @@ fn in_value(k: usize, at: usize, n: usize, b: u8) -> State
     requires { k + at < 4096 }
     ensures { result ≡ state_after (Value k at n) b }
 {
-    if b == 10 {
+    if b == b'\n' {
         return end(k, at);
     }
     value(k, at, grow(k, at, n, b))
@@ -299,24 +257,14 @@ fn step(state: State, b: u8) -> State
 fn is_stuck(state: State) -> bool
     ensures { result ≡ stuck state }
 {
-    match state {
-        State::Before(_) => false,
-        State::Name(_, _) => false,
-        State::Value(_, _, _) => false,
-        State::Stuck => true,
-    }
+    matches!(state, State::Stuck)
 }
 
 // Whether the text may end here.
 fn may_end(state: State) -> bool
     ensures { result ≡ may state }
 {
-    match state {
-        State::Before(_) => true,
-        State::Name(_, _) => false,
-        State::Value(_, _, _) => false,
-        State::Stuck => false,
-    }
+    matches!(state, State::Before(_))
 }
 
 // The value of line k has `at` bytes, and makes the number n.
@@ -324,27 +272,17 @@ fn may_end(state: State) -> bool
 fn file_as(lines: Lines, k: usize, at: usize, n: usize) -> Lines
     ensures { result ≡ file_as lines k at n }
 {
-    if k == 0 {
-        return Lines {
+    match k {
+        0 => Lines {
             edition: at,
-            rule: lines.rule,
-            closing: lines.closing,
             number: n,
-        };
-    }
-    if k == 1 {
-        return Lines {
-            edition: lines.edition,
-            rule: at,
-            closing: lines.closing,
-            number: lines.number,
-        };
-    }
-    Lines {
-        edition: lines.edition,
-        rule: lines.rule,
-        closing: at,
-        number: lines.number,
+            ..lines
+        },
+        1 => Lines { rule: at, ..lines },
+        _ => Lines {
+            closing: at,
+            ..lines
+        },
     }
 }
 
@@ -353,7 +291,7 @@ fn file_as(lines: Lines, k: usize, at: usize, n: usize) -> Lines
 fn file_value(lines: Lines, k: usize, at: usize, n: usize, b: u8) -> Lines
     ensures { result ≡ filed lines (Value k at n) b }
 {
-    if b == 10 {
+    if b == b'\n' {
         return file_as(lines, k, at, n);
     }
     lines
@@ -365,10 +303,8 @@ fn file(lines: Lines, state: State, b: u8) -> Lines
     ensures { result ≡ filed lines state b }
 {
     match state {
-        State::Before(_) => lines,
-        State::Name(_, _) => lines,
         State::Value(k, at, n) => file_value(lines, k, at, n, b),
-        State::Stuck => lines,
+        _ => lines,
     }
 }
 
@@ -381,19 +317,16 @@ pub fn scan_sheet(text: &[u8]) -> Scan
     }
     let mut lines = Lines::NONE;
     let mut state = State::Before(0);
-    let mut at = 0;
-    while at < text.len() {
-        let b = text[at];
+    for (at, &b) in text.iter().enumerate() {
         lines = file(lines, state, b);
         state = step(state, b);
         if is_stuck(state) {
             return Scan::Bad(at);
         }
-        at += 1;
     }
     if may_end(state) {
         Scan::Good(lines)
     } else {
-        Scan::Bad(at)
+        Scan::Bad(text.len())
     }
 }

@@ -1,3 +1,3 @@
-pub mod Full
+pub mod Searches
 pub mod Promises
 pub mod Nine

@@ -1,5 +1,5 @@
 -- More of specs/Nine. WHAT WAS ADDED COMES OUT UNTIL IT IS THE OLDEST OF NINE: byte for byte as long as fewer than eight sheets were taken behind it (`comes_out`), and no more from the eighth on (`goes_out`).
-use Rattle.std.specs.Prelude.{ℕ, ◌+◌, ◌-◌, ◌≤◌, ◌<◌, ◌≡◌, true}
+use Rattle.std.specs.Prelude.{ℕ, ◌≤◌, ◌<◌, ◌≡◌, true}
 use Rattle.std.proofs.Math.Path.{refl, sym}
 use Rattle.std.proofs.Common.{ap, ◌∙◌, inr, arith}
 use mathlib.Core.List.{List, [], ◌∷◌, ◌++◌, append-nil}

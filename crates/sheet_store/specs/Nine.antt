@@ -6,7 +6,7 @@ use mathlib.Core.List.{List, [], ◌∷◌, ◌++◌, append_assoc}
 use Rattle.std.proofs.lemmas.Bool.{eqb-false}
 use Rattle.sheet_store.specs.declared.Store.{Store}
 use Rattle.sheet_store.specs.Store.{edition_of}
-use Rattle.sheet_store.specs.Shelf.{Ascends, none, more, newest_from, ascends_more, ascends_drop, Shelf, Lacks, none_lacks, more_lacks}
+use Rattle.sheet_store.specs.Shelf.{Ascends, more, newest_from, ascends_more, ascends_drop, Shelf, Lacks, none_lacks, more_lacks}
 use Rattle.sheet_store.specs.Promises.{shelved, takes, shelved_if, shelving}
 
 -- how many of the texts are taken that are handed in one after the other

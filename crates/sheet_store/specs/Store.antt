@@ -38,6 +38,9 @@ edition_of s = number_in (scan_of s)
 unfoldable pub edition_in : Kept → ℕ
 edition_in t = cond (ltb 1024 t.len) 0 (edition_of (text_in t))
 
+abbrev pub is_edition : ℕ → Kept → Bool
+is_edition e t = eqb (edition_in t) e
+
 -- as a text is kept: zeros behind it
 unfoldable pub kept_of : List ℕ → Kept
 kept_of s = kept_as (length s) (over s (replicate 1024 0))

@@ -2,7 +2,8 @@
 #![tactic(auto)]
 
 ghost use Rattle.std.specs.Prelude.{◌≡◌, ◌≤◌, ◌<◌, length, take};
-ghost use Rattle.sheet_store.specs.Store.{overfull_of, edition_in, kept_of, dropped, pushed, newest_of, refused_as, held_as, added_by, added, place_of, no_copy, copied_kept, copied};
+ghost use Rattle.std.specs.List.{position};
+ghost use Rattle.sheet_store.specs.Store.{overfull_of, edition_in, is_edition, kept_of, dropped, pushed, newest_of, refused_as, held_as, added_by, added, no_copy, copied_kept, copied};
 
 use answers::Kind;
 use settings::SheetRefusal;
@@ -74,23 +75,14 @@ pub enum Copied {
 }
 
 // Whether a store counts more than it may: more than eight sheets, or a sheet of more than 1,024 bytes. No call makes such a store, but any may be handed in.
-#[tactic(auto, using(crate::specs::Laws::long_here, crate::specs::Laws::long_on, crate::specs::Laws::long_end, crate::proofs::Full::full, std::proofs::lemmas::Grind::common_steps), unfolding(crate::specs::Store::overfull_of))]
+#[tactic(auto, using(crate::proofs::Searches::overfull_by_count, crate::proofs::Searches::overfull_by_any))]
 fn overfull(store: Store) -> bool
     ensures { result ≡ overfull_of store }
 {
-    let count = store.count;
-    if Store::MAX < count {
-        return true;
-    }
-    let mut i = 0;
-    while i < count {
-        let kept = store.sheets[i];
-        if Kept::MAX < kept.len {
-            return true;
-        }
-        i += 1;
-    }
-    false
+    Store::MAX < store.count
+        || store.sheets[..store.count]
+            .iter()
+            .any(|kept| Kept::MAX < kept.len)
 }
 
 // The edition number of a kept sheet; 0 where it is no sheet or names none.
@@ -98,13 +90,10 @@ fn overfull(store: Store) -> bool
 fn edition_of(kept: Kept) -> usize
     ensures { result ≡ edition_in kept }
 {
-    let bytes = kept.bytes;
-    let len = kept.len;
-    if Kept::MAX < len {
+    if Kept::MAX < kept.len {
         return 0;
     }
-    let read = sheet::scan_sheet(&bytes[..len]);
-    match read {
+    match sheet::scan_sheet(&kept.bytes[..kept.len]) {
         Scan::Good(lines) => lines.number,
         Scan::Bad(_) => 0,
     }
@@ -116,12 +105,8 @@ fn keep(sheet: &[u8]) -> Kept
     requires { length sheet.now ≤ 1024 }
     ensures { result ≡ kept_of sheet.now }
 {
-    let mut bytes = [0u8; 1024];
-    let mut i = 0;
-    while i < sheet.len() {
-        bytes[i] = sheet[i];
-        i += 1;
-    }
+    let mut bytes = [0; 1024];
+    bytes[..sheet.len()].copy_from_slice(sheet);
     Kept {
         len: sheet.len(),
         bytes,
@@ -129,17 +114,12 @@ fn keep(sheet: &[u8]) -> Kept
 }
 
 // The sheets without the oldest; the last place is free.
-#[tactic(auto, using(crate::specs::Laws::slid_turn, crate::proofs::Full::full, std::proofs::lemmas::Grind::common_steps), unfolding(crate::specs::Store::dropped))]
+#[tactic(auto, unfolding(crate::specs::Store::dropped))]
 fn drop_oldest(store: Store) -> Store
     ensures { result ≡ dropped store }
 {
     let mut sheets = store.sheets;
-    let mut i = 0;
-    while i < 7 {
-        let next = sheets[i + 1];
-        sheets[i] = next;
-        i += 1;
-    }
+    sheets.copy_within(1.., 0);
     Store { count: 7, sheets }
 }
 
@@ -149,11 +129,10 @@ fn push(store: Store, kept: Kept) -> Store
     requires { store.count < 8 }
     ensures { result ≡ pushed store kept }
 {
-    let n = store.count;
     let mut sheets = store.sheets;
-    sheets[n] = kept;
+    sheets[store.count] = kept;
     Store {
-        count: n + 1,
+        count: store.count + 1,
         sheets,
     }
 }
@@ -164,12 +143,10 @@ fn newest(store: Store) -> usize
     requires { store.count ≤ 8 }
     ensures { result ≡ newest_of store }
 {
-    let n = store.count;
-    if n == 0 {
+    if store.count == 0 {
         return 0;
     }
-    let last = store.sheets[n - 1];
-    edition_of(last)
+    edition_of(store.sheets[store.count - 1])
 }
 
 // A refusal leaves the store as it is.
@@ -219,29 +196,20 @@ pub fn add(store: Store, sheet: &[u8]) -> Added
     if overfull(store) {
         return refuse(store, Kind::Value, 0, 0);
     }
-    let read = sheet::scan_sheet(sheet);
-    match read {
+    match sheet::scan_sheet(sheet) {
         Scan::Bad(place) => refuse(store, Kind::SheetText, 1, place),
         Scan::Good(lines) => add_edition(store, sheet, lines.number),
     }
 }
 
-// The first kept sheet of that edition, and how many are kept where there is none.
-#[tactic(auto, using(crate::specs::Laws::place_here, crate::specs::Laws::place_on, crate::specs::Laws::place_end, crate::proofs::Full::full, std::proofs::lemmas::Grind::common_steps))]
-fn find(store: Store, edition: usize) -> usize
+// The place of the first kept sheet of that edition.
+fn find(store: Store, edition: usize) -> Option<usize>
     requires { store.count ≤ 8 }
-    ensures { result ≡ place_of edition (take store.count store.sheets) }
+    ensures { result ≡ position (is_edition edition) (take store.count store.sheets) }
 {
-    let count = store.count;
-    let mut i = 0;
-    while i < count {
-        let kept = store.sheets[i];
-        if edition_of(kept) == edition {
-            return i;
-        }
-        i += 1;
-    }
-    i
+    store.sheets[..store.count]
+        .iter()
+        .position(|kept| edition_of(*kept) == edition)
 }
 
 // A refusal of copying out.
@@ -256,27 +224,20 @@ fn no_copy(kind: Kind) -> Copied
 }
 
 // A kept sheet into a buffer that may be too short.
-#[tactic(auto, using(crate::specs::Laws::over_turn, std::proofs::lemmas::Grind::common_steps))]
 fn copy_kept(kept: Kept, buffer: &mut [u8]) -> Copied
     requires { kept.len ≤ 1024 }
     ensures answer { result ≡ (copied_kept kept buffer.old).answer }
     ensures buffer { buffer.new ≡ (copied_kept kept buffer.old).buffer }
 {
-    let bytes = kept.bytes;
-    let len = kept.len;
-    if buffer.len() < len {
+    if buffer.len() < kept.len {
         return no_copy(Kind::Room);
     }
-    let mut i = 0;
-    while i < len {
-        buffer[i] = bytes[i];
-        i += 1;
-    }
-    Copied::Sheet(Length { bytes: len })
+    buffer[..kept.len].copy_from_slice(&kept.bytes[..kept.len]);
+    Copied::Sheet(Length { bytes: kept.len })
 }
 
 // Copies out the sheet of an edition. Refused by 9 if the store counts more than it may, 20 if that edition is not kept, 11 if the buffer is shorter than the sheet.
-#[tactic(auto, using(crate::specs::Laws::found_short, crate::specs::Laws::fits_count, crate::proofs::Full::full, std::proofs::lemmas::Grind::common_steps), unfolding(crate::specs::Store::copied))]
+#[tactic(auto, using(crate::specs::Laws::fits_count, crate::proofs::Searches::found_sheet, crate::proofs::Searches::sheet_fits, crate::proofs::Searches::found_none, std::proofs::lemmas::Grind::common_steps), unfolding(crate::specs::Store::copied))]
 pub fn copy_out(store: Store, edition: usize, buffer: &mut [u8]) -> Copied
     ensures answer { result ≡ (copied store edition buffer.old).answer }
     ensures buffer { buffer.new ≡ (copied store edition buffer.old).buffer }
@@ -287,10 +248,8 @@ pub fn copy_out(store: Store, edition: usize, buffer: &mut [u8]) -> Copied
     if edition == 0 {
         return no_copy(Kind::NotHeld);
     }
-    let at = find(store, edition);
-    if at < store.count {
-        let kept = store.sheets[at];
-        return copy_kept(kept, buffer);
+    match find(store, edition) {
+        Some(at) => copy_kept(store.sheets[at], buffer),
+        None => no_copy(Kind::NotHeld),
     }
-    no_copy(Kind::NotHeld)
 }

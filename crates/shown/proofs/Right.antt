@@ -1,5 +1,4 @@
 -- More of specs/Right. What the tests find is what the check's rules say.
-use mathlib.Core.Logic.Iff
 use Rattle.std.specs.Prelude.{ℕ, ◌-◌, ◌≤◌, ◌<◌, ◌≡◌, refl, ◌↔◌, Bool, List, length, get_or}
 use Rattle.std.proofs.Common.{ap, subst, ◌∙◌, arith, length-drop}
 use Rattle.plant.specs.declared.Plant as plant
@@ -9,7 +8,6 @@ use Rattle.meaning.specs.Says.{Says}
 use Rattle.meaning.specs.Formula.{Formula, Holds}
 use Rattle.meaning.specs.Run.{Plant, FairLasso, Run, state_at, labels_along}
 use Rattle.event_log.specs.declared.Event.{Event}
-use Rattle.around.specs.Around.{place}
 use Rattle.around.proofs.Places.{place_self}
 use Rattle.around.specs.Along.{lasso_of, labels_of}
 use Rattle.around.proofs.AlongLaws.{state_at_lem, run_means}

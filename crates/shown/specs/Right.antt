@@ -11,7 +11,7 @@ use Rattle.syntax.specs.Value.{rule_of}
 use Rattle.meaning.specs.Bit.{bit}
 use Rattle.meaning.specs.Says.{Says, Kept}
 use Rattle.meaning.specs.Formula.{Formula}
-use Rattle.meaning.specs.Run.{Plant, FairLasso, state_at, label_of, next_of}
+use Rattle.meaning.specs.Run.{Plant, FairLasso, label_of, next_of}
 use Rattle.words.specs.Truth.{says_itself, says_and, says_not}
 use Rattle.words.specs.Tests.{lt_says, le_says}
 use Rattle.words.specs.Folds.{any_says, all_says}

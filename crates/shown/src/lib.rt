@@ -16,7 +16,6 @@ use around::run::holds_on_run;
 use plant::Plant;
 use positions::agree;
 use syntax::Rule;
-use words::index_of;
 
 // The rules that a run may fail, in the order in which they are looked at.
 #[derive(Clone, Copy)]
@@ -39,32 +38,30 @@ pub enum Found {
 fn state_at(run: &[u8], at: usize) -> usize
     ensures { result ≡ get_or run.now at 0 }
 {
-    if at < run.len() { index_of(run[at]) } else { 0 }
+    usize::from(run.get(at).copied().unwrap_or(0))
 }
 
 // Entry k of a table, and 0 beyond its end.
 fn entry(table: &[u16], k: usize) -> u16
     ensures { result ≡ get_or table.now k 0 }
 {
-    if k < table.len() { table[k] } else { 0 }
+    table.get(k).copied().unwrap_or(0)
 }
 
 // Whether the state is in the set.
 fn member(set: u64, state: usize) -> bool
     ensures { result ≡ bit set state }
 {
-    if state < 64 {
-        return words::has(set, state);
-    }
-    false
+    state < 64 && words::has(set, state)
 }
 
 // There is a first state, it is the table's, and a starting state.
+#[tactic(auto, unfolding(crate::specs::Tests::starts_of))]
 pub fn starts(start: u64, states: usize, run: &[u8]) -> bool
     ensures { result ≡ starts_of start states run.now }
 {
     let first = state_at(run, 0);
-    (0 < run.len()) & (first < states) & member(start, first)
+    !run.is_empty() && first < states && member(start, first)
 }
 
 // The state at position i is the table's, and the next may follow it.
@@ -74,46 +71,30 @@ fn move_at(next: &[u64], states: usize, run: &[u8], stem: usize, i: usize) -> bo
 {
     let from = state_at(run, i);
     let to = state_at(run, place_of(stem, run.len(), i + 1));
-    (from < states) & member(words::entry(next, from), to)
+    from < states && member(words::entry(next, from), to)
 }
 
 // There is a loop, and the table has each move of the run.
 pub fn moves(next: &[u64], states: usize, run: &[u8], stem: usize) -> bool
     ensures { result ≡ moves_of next.now states run.now stem }
 {
-    let n = run.len();
-    if n <= stem {
-        return false;
-    }
-    let mut good = true;
-    for i in 0..n {
-        good = good & move_at(next, states, run, stem, i);
-    }
-    good
+    stem < run.len() && (0..run.len()).all(|i| move_at(next, states, run, stem, i))
 }
 
 // The loop meets the set.
 fn meets(set: u64, run: &[u8], stem: usize) -> bool
     ensures { result ≡ meets_of set run.now stem }
 {
-    let n = run.len();
-    let mut met = false;
-    for i in 0..n {
-        met = met | ((stem <= i) & member(set, state_at(run, i)));
-    }
-    met
+    run.iter()
+        .skip(stem)
+        .any(|state| member(set, usize::from(*state)))
 }
 
 // The loop meets each fairness set.
 pub fn is_fair(fair: &[u64], run: &[u8], stem: usize) -> bool
     ensures { result ≡ fair_of fair.now run.now stem }
 {
-    let n = fair.len();
-    let mut good = true;
-    for j in 0..n {
-        good = good & meets(fair[j], run, stem);
-    }
-    good
+    fair.iter().all(|set| meets(*set, run, stem))
 }
 
 // The state at position i agrees with an event that saw `see`, and of it `val` to hold.
@@ -129,7 +110,7 @@ pub fn agree_at(label: &[u16], run: &[u8], stem: usize, i: usize, see: u16, val:
 fn kept(asked: bool, value: bool) -> bool
     ensures { result ≡ kept_of asked value }
 {
-    if asked { value } else { !value }
+    value == asked
 }
 
 // The first rule that the run fails, or none: the start, the moves, fairness, agreement with the events, and whether the rule holds at the

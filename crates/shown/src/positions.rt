@@ -15,12 +15,7 @@ fn behind(first: Num, number: u32) -> usize
 {
     match first {
         Num::Expected => number as usize,
-        Num::Given(begun) => {
-            if begun < number {
-                return (number - begun) as usize;
-            }
-            0
-        }
+        Num::Given(begun) => { number.saturating_sub(begun) as usize }
     }
 }
 
@@ -38,10 +33,7 @@ fn position(first: Num, num: Num, line: usize) -> usize
 fn later(restart: bool, at: usize, mark: usize) -> usize
     ensures { result ≡ later_of restart at mark }
 {
-    if restart {
-        return at;
-    }
-    mark
+    if restart { at } else { mark }
 }
 
 // The position at which the rule is judged: the last restart's, and the first where there is none.
@@ -49,16 +41,11 @@ pub fn mark_of(log: &[u8], props: usize) -> usize
     ensures { result ≡ mark_of (event_at (width_of props) log.now) (whole_lines (width_of props) log.now) }
 {
     let lines = log.len() / event_log::line_bytes(log, props);
-    let begin = event_log::event_at(log, 0, props);
-    let first = begin.num;
-    let mut mark = 0;
-    for n in 0..lines {
+    let first = event_log::event_at(log, 0, props).num;
+    (0..lines).fold(0, |mark, n| {
         let event = event_log::event_at(log, n, props);
-        let num = event.num;
-        let at = position(first, num, n);
-        mark = later(event.new, at, mark);
-    }
-    mark
+        later(event.new, position(first, event.num, n), mark)
+    })
 }
 
 // The run agrees with each event at its position, round the loop where there are more positions than states.
@@ -67,14 +54,16 @@ pub fn agree(label: &[u16], run: &[u8], stem: usize, log: &[u8], props: usize) -
     ensures { result ≡ agree_of label.now run.now stem (event_at (width_of props) log.now) (whole_lines (width_of props) log.now) }
 {
     let lines = log.len() / event_log::line_bytes(log, props);
-    let begin = event_log::event_at(log, 0, props);
-    let first = begin.num;
-    let mut good = true;
-    for n in 0..lines {
+    let first = event_log::event_at(log, 0, props).num;
+    (0..lines).all(|n| {
         let event = event_log::event_at(log, n, props);
-        let num = event.num;
-        let at = position(first, num, n);
-        good = good & agree_at(label, run, stem, at, event.see, event.val);
-    }
-    good
+        agree_at(
+            label,
+            run,
+            stem,
+            position(first, event.num, n),
+            event.see,
+            event.val,
+        )
+    })
 }

@@ -53,14 +53,13 @@ fn decided_by(verdict: Verdict, number: u64) -> u64
     ensures { result ≡ decided_by verdict number }
 {
     match verdict {
-        Verdict::Inconclusive => Stretch::NONE,
-        Verdict::True => number,
-        Verdict::False => number,
-        Verdict::OutOfModel => Stretch::NONE,
+        Verdict::True | Verdict::False => number,
+        Verdict::Inconclusive | Verdict::OutOfModel => Stretch::NONE,
     }
 }
 
 // Once it is decided it stays so, whatever the lamp shows behind it.
+#[tactic(auto, unfolding(crate::specs::Sheet::decided_after))]
 fn decided_after(decided: u64, verdict: Verdict, number: u64) -> u64
     ensures { result ≡ decided_after decided verdict number }
 {
@@ -70,6 +69,7 @@ fn decided_after(decided: u64, verdict: Verdict, number: u64) -> u64
     decided_by(verdict, number)
 }
 
+#[tactic(auto, unfolding(crate::specs::Sheet::one_more))]
 fn one_more(events: u64) -> u64
     ensures { result ≡ one_more events }
 {
@@ -104,47 +104,42 @@ fn more_line(line: Stretch, number: u64, verdict: Verdict) -> Stretch
 }
 
 // A stretch more. A full sheet stays as it is: who notes looks first whether there is room.
+#[tactic(auto, unfolding(crate::specs::Sheet::begun_by))]
 fn begun(sheet: DaySheet, number: u64, verdict: Verdict) -> DaySheet
     ensures { result ≡ begun_by sheet number verdict }
 {
-    let count = sheet.count;
-    let mut lines = sheet.lines;
-    if count < DaySheet::STRETCHES {
-        lines[count] = first_line(number, verdict);
-        return DaySheet {
-            count: count + 1,
-            lines,
-        };
+    if DaySheet::STRETCHES <= sheet.count {
+        return sheet;
     }
-    sheet
+    let mut lines = sheet.lines;
+    lines[sheet.count] = first_line(number, verdict);
+    DaySheet {
+        count: sheet.count + 1,
+        lines,
+    }
 }
 
 // The last stretch goes on.
+#[tactic(auto, using(crate::specs::Sheet::gone_within, crate::specs::Sheet::gone_beyond))]
 fn gone_on(sheet: DaySheet, number: u64, verdict: Verdict) -> DaySheet
     requires { 1 ≤ sheet.count }
     ensures { result ≡ gone_on_by sheet number verdict }
 {
     let last = sheet.count - 1;
-    let mut lines = sheet.lines;
-    if last < DaySheet::STRETCHES {
-        let line = lines[last];
-        lines[last] = more_line(line, number, verdict);
-        return DaySheet {
-            count: sheet.count,
-            lines,
-        };
+    if DaySheet::STRETCHES <= last {
+        return sheet;
     }
-    sheet
+    let mut lines = sheet.lines;
+    lines[last] = more_line(lines[last], number, verdict);
+    DaySheet { lines, ..sheet }
 }
 
 // An event noted: it opens a stretch, as the first of a sheet always does, or the last one goes on.
+#[tactic(auto, unfolding(crate::specs::Sheet::noted_by))]
 pub fn noted(sheet: DaySheet, opens: bool, number: u64, verdict: Verdict) -> DaySheet
     ensures { result ≡ noted_by sheet opens number verdict }
 {
-    if sheet.count == 0 {
-        return begun(sheet, number, verdict);
-    }
-    if opens {
+    if sheet.count == 0 || opens {
         return begun(sheet, number, verdict);
     }
     gone_on(sheet, number, verdict)

@@ -1,8 +1,8 @@
 -- `report_text::list`: from each place on the list ends where it does from its start.
-use Rattle.std.proofs.Common.{ℕ, ◌-◌, ◌≡◌, ◌∙◌, false, not, List, drop}
+use Rattle.std.proofs.Common.{ℕ, ◌≡◌, ◌∙◌, sym, ap, false, not, List, drop}
 use borrow.Author.Tests.{not-true, not-false}
 use Rattle.report_text.specs.declared.Cursor.{Cursor}
-use Rattle.report_text.specs.Form.{list_to, list_of}
+use Rattle.report_text.specs.Form.{list_end, list_to, list_of}
 use Rattle.report_text.proofs.Turn.{list_on, list_stop, list_done}
 use Rattle.std.proofs.Common.{arith}
 use Rattle.std.proofs.lemmas.Grind.{common_steps}
@@ -25,4 +25,5 @@ loop-at-preserved c = grind (arith, common_steps, not-false, list_on)
 pub returns : goal.returns
 returns c =
     let l = c.loop-at in
-    c.list_end-2.ensures ∙ list_done _ l.inside l.at _ c.loop-at-test.false ∙ l.invariant ∙ started _ _ c.if-not-c.false
+    let e : l.at ≡ c.max.result = omega (arith, l.auto.at, l.invariant.0, c.loop-at-test.false, c.max.ensures) in
+    c.list_end-2.ensures ∙ ap (list_end c.args.c l.inside) (sym e) ∙ list_done _ l.inside l.at _ c.loop-at-test.false ∙ l.invariant.1 ∙ started _ _ c.if-not-c.false

@@ -2,10 +2,10 @@
 use Rattle.report_text.proofs.Whole.{read_is}
 use Rattle.report_text.proofs.read_report.Goals as goal
 
-pub returns-then-end-at : goal.returns-then-end-at
-returns-then-end-at c =
-    read_is _ _ _ _ _ c.claim-claimed.ensures c.run-keeps.ensures c.run-breaks.ensures c.if-end-at.true
+pub returns-then-end-text : goal.returns-then-end-text
+returns-then-end-text c =
+    read_is _ _ _ _ _ c.claim-claimed.ensures c.run-keeps.ensures c.run-breaks.ensures c.if-end-text.true
 
 pub returns : goal.returns
 returns c =
-    read_is _ _ _ _ _ c.claim-claimed.ensures c.run-keeps.ensures c.run-breaks.ensures c.if-end-at.false
+    read_is _ _ _ _ _ c.claim-claimed.ensures c.run-keeps.ensures c.run-breaks.ensures c.if-end-text.false

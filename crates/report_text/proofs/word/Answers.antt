@@ -1,10 +1,12 @@
--- `report_text::word`: what is left of the known bytes makes of the cursor what all made of it.
-use Rattle.std.proofs.Common.{◌-◌, ◌∙◌, arith}
-use Rattle.report_text.proofs.Turn.{word_turn, word_done}
+-- `report_text::word`: the fold over the known bytes.
+use Rattle.std.proofs.Common.{rules, ◌∙◌}
+use Rattle.std.proofs.lemmas.Iterator.{YieldsList-from_slice}
+use Rattle.std.proofs.lemmas.Iterator.Consumers.{fold_from_yields_List}
+use Rattle.report_text.specs.Form.{byte_taken}
+use Rattle.report_text.proofs.Turn.{word_by_fold}
 use Rattle.report_text.proofs.word.Goals as goal
 
-pub loop-i-preserved : goal.loop-i-preserved
-loop-i-preserved c = (omega arith, word_turn _ _ _ _ _ c.loop-i-test.true c.step-d.ensures ∙ c.loop-i.invariant.1)
-
 pub returns : goal.returns
-returns c = word_done _ _ _ _ c.loop-i-test.false ∙ c.loop-i.invariant.1
+returns c =
+    fold_from_yields_List _ (byte_taken c.args.text.now) c.args.c _ c.fold.ensures.ran (YieldsList-from_slice c.args.known.now cc) (λ d x r q k. search rules)
+    ∙ word_by_fold c.args.text.now c.args.c c.args.known.now

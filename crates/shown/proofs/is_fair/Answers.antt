@@ -1,17 +1,13 @@
--- `is_fair`: the sets passed are met.
-use Rattle.std.proofs.Common.{le_antisymm, ◌-◌, zero-le, refl, arith}
-use Rattle.node_value.specs.Turns.{all_turn}
-use Rattle.shown.specs.Tests.{fair_of}
-use Rattle.words.specs.Below.{all_below}
+-- `is_fair`: each set is met.
+use Rattle.std.proofs.Common.{rules, tests, ◌∙◌}
+use Rattle.std.proofs.lemmas.Iterator.{YieldsList-from_slice}
+use Rattle.std.proofs.lemmas.Iterator.Search.{all_from_yields_List}
+use Rattle.shown.specs.Tests.{meets_of, fair_of}
+use Rattle.shown.proofs.Chains.{all_list}
 use Rattle.shown.proofs.is_fair.Goals as goal
-
-pub loop-j-init : goal.loop-j-init
-unfolding all_below
-loop-j-init c = (zero-le, refl)
-
-pub loop-j-preserved : goal.loop-j-preserved
-loop-j-preserved c = (omega arith, all_turn _ _ _ _ c.loop-j.invariant.1 c.meets-good.ensures)
 
 pub returns : goal.returns
 unfolding fair_of
-returns c = cc (le_antisymm c.loop-j.invariant.0 c.loop-j-test.false)
+returns c =
+    all_from_yields_List (λ set. meets_of set c.args.run.now c.args.stem) _ _ _ c.all.ensures.ran (YieldsList-from_slice c.args.fair.now cc) (λ x b q k. search (rules, tests))
+    ∙ all_list (λ set. meets_of set c.args.run.now c.args.stem) c.args.fair.now

@@ -1,17 +1,15 @@
--- `meets`: whether a position passed meets the set.
-use Rattle.std.proofs.Common.{le_antisymm, ◌-◌, zero-le, refl, arith}
-use Rattle.node_value.specs.Turns.{any_turn}
+-- `meets`: a state behind the stem is in the set.
+use Rattle.std.proofs.Common.{rules, tests, ◌∙◌}
+use Rattle.std.proofs.lemmas.Iterator.{YieldsList-from_slice}
+use Rattle.std.proofs.lemmas.Iterator.Adapters.{YieldsList-from_skip}
+use Rattle.std.proofs.lemmas.Iterator.Search.{any_from_yields_List}
+use Rattle.meaning.specs.Bit.{bit}
 use Rattle.shown.specs.Tests.{meets_of}
-use Rattle.words.specs.Below.{any_below}
+use Rattle.shown.proofs.Chains.{any_behind}
 use Rattle.shown.proofs.meets.Goals as goal
-
-pub loop-i-init : goal.loop-i-init
-unfolding any_below
-loop-i-init c = (zero-le, refl)
-
-pub loop-i-preserved : goal.loop-i-preserved
-loop-i-preserved c = (omega arith, any_turn _ _ _ _ c.loop-i.invariant.1 (cc))
 
 pub returns : goal.returns
 unfolding meets_of
-returns c = cc (le_antisymm c.loop-i.invariant.0 c.loop-i-test.false)
+returns c =
+    any_from_yields_List (bit c.args.set) _ _ _ c.any.ensures.ran (YieldsList-from_skip c.args.stem (YieldsList-from_slice c.args.run.now cc) cc) (λ x b q k. search (rules, tests))
+    ∙ any_behind (bit c.args.set) c.args.stem c.args.run.now

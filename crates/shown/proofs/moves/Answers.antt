@@ -1,21 +1,19 @@
--- `moves`: the moves passed are right.
-use Rattle.std.proofs.Common.{le-ltb, le_antisymm, ◌-◌, zero-le, refl, arith}
-use Rattle.node_value.specs.Turns.{all_turn}
-use Rattle.shown.specs.Turns.{moves_end}
-use Rattle.shown.specs.Tests.{moves_of}
-use Rattle.words.specs.Below.{all_below}
+-- `moves`: a loop, and each move.
+use Rattle.std.proofs.Common.{rules, tests, ◌∙◌, length, lt-ltb, le-ltb, arith, refl}
+use Rattle.std.proofs.lemmas.Iterator.{YieldsList-from_range}
+use Rattle.std.proofs.lemmas.Iterator.Search.{all_from_yields_List}
+use Rattle.shown.specs.Tests.{move_at, moves_of}
+use Rattle.shown.proofs.Chains.{all_range}
 use Rattle.shown.proofs.moves.Goals as goal
 
-pub returns-then-n-stem : goal.returns-then-n-stem
+pub returns-then-stem-run : goal.returns-then-stem-run
 unfolding moves_of
-returns-then-n-stem c = rw (le-ltb _ _ c.if-n-stem.true)
+returns-then-stem-run c =
+    let n = length c.args.run.now in
+    rw (lt-ltb _ _ c.if-stem-run.true)
+    (all_from_yields_List (move_at c.args.next.now c.args.states c.args.run.now c.args.stem) _ _ _ c.all.ensures.ran (YieldsList-from_range 0 n n refl (omega arith)) (λ x b q k. search (rules, tests))
+    ∙ all_range n (move_at c.args.next.now c.args.states c.args.run.now c.args.stem))
 
-pub loop-i-init : goal.loop-i-init
-unfolding all_below
-loop-i-init c = (zero-le, refl)
-
-pub loop-i-preserved : goal.loop-i-preserved
-loop-i-preserved c = (omega arith, all_turn _ _ _ _ c.loop-i.invariant.1 c.move_at-good.ensures)
-
-pub returns : goal.returns
-returns c = moves_end _ _ _ _ _ _ c.if-n-stem.false (le_antisymm c.loop-i.invariant.0 c.loop-i-test.false) c.loop-i.invariant.1
+pub returns-else-stem-run : goal.returns-else-stem-run
+unfolding moves_of
+returns-else-stem-run c = rw (le-ltb _ _ c.if-stem-run.false) refl

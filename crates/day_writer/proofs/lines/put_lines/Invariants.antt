@@ -1,11 +1,8 @@
--- `lines::put_lines`: the loop has put the lines below k. Assumes nothing.
-use Rattle.std.proofs.Common.{◌*◌, ◌-◌, ◌≤◌}
+-- `lines::put_lines`: the loop has put the lines before this one. Assumes nothing.
+use Rattle.std.proofs.Common.{◌*◌, ◌≤◌}
 use Rattle.writing.specs.Put.{Put}
 use Rattle.day_writer.specs.Text.{lines_text}
 use Rattle.day_writer.proofs.lines.put_lines.Given as goal
 
-abbrev pub invariant-loop-k : goal.invariant-loop-k
-invariant-loop-k l = (l.k ≤ l.k-end) × (l.end ≤ 105 * l.k) × Put l.initial.buffer 0 (lines_text l.lines l.k) l.buffer l.end
-
-abbrev pub decreases-loop-k : goal.decreases-loop-k
-decreases-loop-k l = l.k-end - l.k
+abbrev pub invariant-loop-line : goal.invariant-loop-line
+invariant-loop-line l = (l.end ≤ 105 * l.line-index) × Put l.initial.buffer 0 (lines_text l.fn.sheet.lines l.line-index) l.buffer l.end

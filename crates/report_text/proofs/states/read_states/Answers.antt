@@ -1,15 +1,16 @@
 -- `report_text::states::read_states`: what is kept, and the states of the rest behind it, are those of the list (`Kept`).
-use Rattle.std.proofs.Common.{◌-◌, refl}
+use Rattle.std.proofs.Common.{refl, sym, ◌∙◌}
+use borrow.Author.Tests.{eqb-true, eqb-false}
 use Rattle.report_text.proofs.Kept.{kept_turn, kept_end, none_read}
 use Rattle.report_text.proofs.states.read_states.Goals as goal
 
-pub returns-then-list-eq0 : goal.returns-then-list-eq0
-returns-then-list-eq0 c = none_read _ _ c.if-list-eq0.true
+pub returns-then-is_empty : goal.returns-then-is_empty
+returns-then-is_empty c = none_read _ _ (eqb-true _ 0 (sym c.is_empty.ensures ∙ c.if-is_empty.true))
 
-pub loop-at-preserved : goal.loop-at-preserved
-loop-at-preserved c =
-    rw c.grow-n.ensures (kept_turn _ _ c.loop-at.invariant c.loop-at-test.true refl c.is_comma.ensures c.keep-count.ensures)
+pub loop-b-preserved : goal.loop-b-preserved
+loop-b-preserved c =
+    rw c.grow-n.ensures (kept_turn _ _ c.loop-b.invariant c.loop-b-test.true refl c.is_comma.ensures c.keep-count.ensures)
 
 pub returns : goal.returns
 returns c =
-    kept_end c.loop-at.invariant c.if-list-eq0.false c.loop-at-test.false c.keep.ensures
+    kept_end c.loop-b.invariant (eqb-false _ 0 (sym c.is_empty.ensures ∙ c.if-is_empty.false)) c.loop-b-test.false c.keep.ensures

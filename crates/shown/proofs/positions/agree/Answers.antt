@@ -1,27 +1,19 @@
--- `positions::agree`: the events passed agree.
-use Rattle.std.proofs.Common.{ℕ, ◌-◌, ◌/◌, zero-le, refl, ap, ◌∙◌, le_antisymm, div-le_self, arith, length}
-use Rattle.words.specs.Below.{all_below}
+-- `positions::agree`: each event agrees.
+use Rattle.std.proofs.Common.{ℕ, rules, tests, ◌∙◌, ◌/◌, ap, refl, arith, length}
+use Rattle.std.proofs.lemmas.Iterator.{YieldsList-from_range}
+use Rattle.std.proofs.lemmas.Iterator.Search.{all_from_yields_List}
 use Rattle.text.specs.Number.{width_of}
 use Rattle.event_log.specs.Read.{event_at}
-use Rattle.shown.specs.Turns.{agree_turn, agree_end}
+use Rattle.words.specs.Below.{all_below}
+use Rattle.shown.specs.Tests.{agree_at, agree_of}
+use Rattle.shown.proofs.Chains.{all_range}
 use Rattle.shown.proofs.positions.agree.Goals as goal
 
-pub loop-n-init : goal.loop-n-init
-unfolding all_below
-loop-n-init c =
-    let told = c.line_bytes in
-    let long = length c.args.log.now in
-    (zero-le, omega (arith, div-le_self long told.result), ap (λ (n : ℕ). long / n) told.ensures, refl)
-
-pub loop-n-preserved : goal.loop-n-preserved
-loop-n-preserved c =
-    let a = c.args in
-    let inv = c.loop-n.invariant in (
-      omega (arith, c.loop-n-test.true),
-      inv.1,
-      inv.2,
-      agree_turn a.label.now a.run.now a.stem (event_at (width_of a.props) a.log.now) _ c.event_at-begin.ensures c.event_at-event.ensures inv.3 c.position-at.ensures c.agree_at-good.ensures,
-    )
-
 pub returns : goal.returns
-returns c = let inv = c.loop-n.invariant in agree_end _ _ _ _ (le_antisymm inv.0 c.loop-n-test.false ∙ inv.2) inv.3
+unfolding agree_of
+returns c =
+    let long = length c.args.log.now in
+    let test = agree_at c.args.label.now c.args.run.now c.args.stem (event_at (width_of c.args.props) c.args.log.now) in
+    let n = long / c.line_bytes.result in
+    all_from_yields_List test _ _ _ c.all.ensures.ran (YieldsList-from_range 0 n n refl (omega arith)) (λ x b q k. search (rules, tests))
+    ∙ all_range n test ∙ ap (λ (k : ℕ). all_below (long / k) test) c.line_bytes.ensures

@@ -1,21 +1,17 @@
--- `positions::mark_of`: the lines passed have their last restart.
-use Rattle.std.proofs.Common.{ℕ, ◌-◌, ◌/◌, zero-le, refl, ap, div-le_self, arith, length}
+-- `positions::mark_of`: the lines have their last restart.
+use Rattle.std.proofs.Common.{ℕ, rules, ◌∙◌, ◌/◌, ap, refl, arith, length}
+use Rattle.std.proofs.lemmas.Iterator.{YieldsList-from_range}
+use Rattle.std.proofs.lemmas.Iterator.Consumers.{fold_from_yields_List}
+use Rattle.text.specs.Number.{width_of}
+use Rattle.event_log.specs.Read.{event_at}
 use Rattle.shown.specs.Positions.{mark_of}
-use Rattle.shown.specs.Turns.{mark_turn}
+use Rattle.shown.proofs.Chains.{marked, mark_range}
 use Rattle.shown.proofs.positions.mark_of.Goals as goal
 
-pub loop-n-init : goal.loop-n-init
-unfolding mark_of
-loop-n-init c =
-    let told = c.line_bytes in
+pub returns : goal.returns
+returns c =
     let long = length c.args.log.now in
-    (zero-le, omega (arith, div-le_self long told.result), ap (λ (n : ℕ). long / n) told.ensures, refl)
-
-pub loop-n-preserved : goal.loop-n-preserved
-loop-n-preserved c =
-    let inv = c.loop-n.invariant in (
-      omega (arith, c.loop-n-test.true),
-      inv.1,
-      inv.2,
-      mark_turn _ _ c.event_at-begin.ensures c.event_at-event.ensures inv.3 c.position-at.ensures c.later-mark.ensures,
-    )
+    let event = event_at (width_of c.args.props) c.args.log.now in
+    let n = long / c.line_bytes.result in
+    fold_from_yields_List _ (marked event) 0 _ c.fold.ensures.ran (YieldsList-from_range 0 n n refl (omega arith)) (λ m x r q k. search rules)
+    ∙ mark_range event n ∙ ap (λ (k : ℕ). mark_of event (long / k)) c.line_bytes.ensures
