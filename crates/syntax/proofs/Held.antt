@@ -8,6 +8,8 @@ use native.Mathlib.Numerals.{add-one}
 use borrow.Author.Tests.{ltb-true, ltb-false}
 use lib.Dec.{ltb}
 use lib.ListN.{length, take, drop, drop_of_length-le, length-map}
+use Rattle.std.specs.Prelude.{count_by}
+use Rattle.std.proofs.lemmas.List.Recursion.{is_sum_by}
 use lib.Seq.{drop-cons, get_or-take, length-take-le, take_all}
 use mir.Val.{Val}
 use denote.Laws.{Is}
@@ -75,3 +77,9 @@ count_turn e = ap count e
 pub count_end : {os : List Op} → os ≡ [] → count os ≡ 0
 unfolding count
 count_end e = ap count e
+
+-- the parts among the nodes that a rule holds
+pub count_held : (r : Rule) → length r.nodes ≡ 32 → count_by (λ n. is_part n.op) (take (stored r) r.nodes) ≡ count (held r)
+unfolding count ops_of
+count_held r is =
+    sym (is_sum_by (λ ms. count (ops_of ms)) (λ m. cond (is_part m.op) 1 0) refl (λ m ms. refl) (take (stored r) r.nodes)) ∙ ap count (held_start r is)
