@@ -84,7 +84,7 @@ told_print (and a b) h r = two And (λ e. omega arith) (λ e. omega arith) a b r
 told_print (or a b) h r = two Or (λ e. omega arith) (λ e. omega arith) a b r (told_print a h.0 r) (told_print b h.1 _)
 told_print (implies a b) h r = two Implies (λ e. omega arith) (λ e. omega arith) a b r (told_print a h.0 r) (told_print b h.1 _)
 
--- what a node brings, and what nodes bring in turn
+-- what a node brings
 pub share_few : (o : Op) → share o ≤ 4
 share_few False = omega arith
 share_few True = omega arith
@@ -102,14 +102,6 @@ share_few Release = omega arith
 share_few And = omega arith
 share_few Or = omega arith
 share_few Implies = omega arith
-
-pub shares_turn : {os ps : List Op} {o : Op} → os ≡ o ∷ ps → shares os ≡ share o + shares ps
-unfolding shares
-shares_turn e = ap shares e
-
-pub shares_end : {os : List Op} → os ≡ [] → shares os ≡ 0
-unfolding shares
-shares_end e = ap shares e
 
 -- a rule's nodes bring as many bytes as its text has
 shares_append : (os ps : List Op) → shares (os ++ ps) ≡ shares os + shares ps

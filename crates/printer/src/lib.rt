@@ -13,20 +13,7 @@ use writing::put_byte;
 fn is_wide(op: Op) -> bool
     ensures { result ≡ wide op }
 {
-    match op {
-        Op::False => false,
-        Op::True => false,
-        Op::Prop(_) => true,
-        Op::Not => false,
-        Op::Next => false,
-        Op::Finally => false,
-        Op::Globally => false,
-        Op::Until => false,
-        Op::Release => false,
-        Op::And => false,
-        Op::Or => false,
-        Op::Implies => true,
-    }
+    matches!(op, Op::Prop(_) | Op::Implies)
 }
 
 // The last byte of a node's word.
@@ -36,7 +23,7 @@ fn last_of(op: Op) -> u8
     match op {
         Op::False => b'0',
         Op::True => b'1',
-        Op::Prop(k) => b'0' + ((k as usize) % Rule::NAMES % 10) as u8,
+        Op::Prop(k) => b'0' + (usize::from(k) % Rule::NAMES % 10) as u8,
         Op::Not => b'!',
         Op::Next => b'X',
         Op::Finally => b'F',
@@ -54,18 +41,8 @@ fn is_ten(op: Op) -> bool
     ensures { result ≡ ten op }
 {
     match op {
-        Op::False => false,
-        Op::True => false,
-        Op::Prop(k) => 10 <= (k as usize) % Rule::NAMES,
-        Op::Not => false,
-        Op::Next => false,
-        Op::Finally => false,
-        Op::Globally => false,
-        Op::Until => false,
-        Op::Release => false,
-        Op::And => false,
-        Op::Or => false,
-        Op::Implies => false,
+        Op::Prop(k) => 10 <= usize::from(k) % Rule::NAMES,
+        _ => false,
     }
 }
 
@@ -73,20 +50,7 @@ fn is_ten(op: Op) -> bool
 fn first_of(op: Op) -> u8
     ensures { result ≡ first op }
 {
-    match op {
-        Op::False => b'p',
-        Op::True => b'p',
-        Op::Prop(_) => b'p',
-        Op::Not => b'p',
-        Op::Next => b'p',
-        Op::Finally => b'p',
-        Op::Globally => b'p',
-        Op::Until => b'p',
-        Op::Release => b'p',
-        Op::And => b'p',
-        Op::Or => b'p',
-        Op::Implies => b'-',
-    }
+    if op == Op::Implies { b'-' } else { b'p' }
 }
 
 // Writes the last byte of a node's own word, and before it the 1 of a number of two digits, so that it ends at `end`; returns where this begins.
@@ -136,8 +100,7 @@ fn put_tree(rule: Rule, buffer: &mut [u8], node: usize, end: usize) -> Spot
         return Spot { node, at: end };
     }
     let i = node - 1;
-    let top = rule.nodes[i];
-    let op = top.op;
+    let op = rule.nodes[i].op;
     let sides = syntax::sides_of(op);
     if sides == 0 {
         let at = put_word(buffer, end, op);
@@ -168,7 +131,7 @@ fn put_tree(rule: Rule, buffer: &mut [u8], node: usize, end: usize) -> Spot
 fn name_share(k: u8) -> usize
     ensures { result ≡ width (Prop k) }
 {
-    if (k as usize) % Rule::NAMES < 10 {
+    if usize::from(k) % Rule::NAMES < 10 {
         2
     } else {
         3
@@ -180,18 +143,10 @@ fn share_of(op: Op) -> usize
     ensures { result ≡ share op }
 {
     match op {
-        Op::False => 1,
-        Op::True => 1,
         Op::Prop(k) => name_share(k),
-        Op::Not => 1,
-        Op::Next => 1,
-        Op::Finally => 1,
-        Op::Globally => 1,
-        Op::Until => 3,
-        Op::Release => 3,
-        Op::And => 3,
-        Op::Or => 3,
+        Op::Until | Op::Release | Op::And | Op::Or => 3,
         Op::Implies => 4,
+        _ => 1,
     }
 }
 
@@ -199,14 +154,9 @@ fn share_of(op: Op) -> usize
 pub fn room_of(rule: Rule) -> usize
     ensures { result ≡ shares (held rule) }
 {
-    let len = rule.stored();
     let mut total: usize = 0;
-    let mut at = 0;
-    while at < len {
-        let node = rule.nodes[at];
-        let op = node.op;
-        total += share_of(op);
-        at += 1;
+    for node in &rule.nodes[..rule.stored()] {
+        total += share_of(node.op);
     }
     total
 }

@@ -13,10 +13,10 @@ use Rattle.syntax.specs.declared.Token.TheVariants.{Leaf, End}
 use Rattle.syntax.specs.declared.Sign.{Sign}
 use Rattle.syntax.specs.declared.Sign.TheVariants.{Blank, Digit, Letter, Before, Between, Dash, Angle, Left, Right, Other}
 use Rattle.syntax.specs.Bytes.{sign_of, gap, name_bytes, lex_sign, lex, lex_name, tokens, NameAt}
-use Rattle.syntax.specs.Reader.{number, op_of, head, tail}
+use Rattle.syntax.specs.Reader.{head, tail}
 use Rattle.syntax.proofs.Places.{byte, at_end_lem}
 use Rattle.syntax.proofs.Lexing.{Byte, byte_of}
-use Rattle.reader.specs.Draft.{token_of, mark_of, Skipped, Lettered, Next}
+use Rattle.reader.specs.Draft.{token_of, Skipped, Lettered, Next}
 use Rattle.reader.specs.declared.Mark.{Mark}
 
 none_left : (s : List ℕ) (at : ℕ) → at ≤ length s → length s ≤ at → tokens s at ≡ []
@@ -67,11 +67,9 @@ lex_drop (suc n) [] = refl
 lex_drop (suc n) (b ∷ s) = lex_drop n s
 
 -- the mark of a proposition whose name was found
-pub name_there : (s : List ℕ) (at : ℕ) (n : Name) → NameAt s at n → (m : Mark) → m ≡ mark_of (Leaf (Prop n.number)) n.next → Lettered s at m
-name_there s at n h m g =
-    rw g
+pub name_there : (s : List ℕ) (at : ℕ) (n : Name) → NameAt s at n → Lettered s at (record { token = Leaf (Prop n.number); next = n.next })
+name_there s at n h =
     record {
-      number_is = refl;
       split = ap₂ (λ k ts. Leaf (Prop k) ∷ ts) (sym h.number_is)
           (lex_drop (name_bytes (drop at s)) (drop at s) ∙ ap (lex 0) (drop-drop (name_bytes (drop at s)) at s ∙ ap (λ i. drop i s) (sym h.next_is)));
       onward = omega (arith, h.next_is);
@@ -79,30 +77,26 @@ name_there s at n h m g =
     }
 
 module _ (s : List ℕ) (from at : ℕ) (sk : Skipped s from at) where
-  -- the mark of the token t, with which the tokens begin
-  marked : (t : Token) (next : ℕ) → tokens s at ≡ t ∷ tokens s next → at < next → next ≤ length s
-      → (m : Mark) → m.number ≡ number t → m.op ≡ op_of t → m.next ≡ next → Next s from m
+  -- the mark of the token with which the tokens begin
+  marked : (m : Mark) → tokens s at ≡ m.token ∷ tokens s m.next → at < m.next → m.next ≤ length s → Next s from m
   unfolding head tail
-  marked t next e lt le m n o x =
-      let f : tokens s from ≡ t ∷ tokens s next = sym sk.same ∙ e in
+  marked m e lt le =
+      let f : tokens s from ≡ m.token ∷ tokens s m.next = sym sk.same ∙ e in
       record {
-        number_is = n ∙ ap (λ ts. number (head ts)) (sym f);
-        op_is = o ∙ ap (λ ts. op_of (head ts)) (sym f);
-        rest_is = ap (tokens s) x ∙ ap tail (sym f);
-        onward = omega (arith, sk.onward);
-        moves = λ _. omega (arith, sk.onward);
-        within = omega arith;
+        token_is = ap head (sym f);
+        rest_is = ap tail (sym f);
+        onward = omega (arith, sk.onward, lt);
+        moves = λ _. omega (arith, sk.onward, lt);
+        within = le;
       }
 
   -- the mark of the end
-  pub ended : length s ≤ at → (m : Mark) → m ≡ mark_of End at → Next s from m
+  pub ended : length s ≤ at → Next s from (record { token = End; next = at })
   unfolding head tail
-  ended le m g =
+  ended le =
       let f : tokens s from ≡ [] = sym sk.same ∙ none_left s at sk.within le in
-      rw g
       record {
-        number_is = ap (λ ts. number (head ts)) (sym f);
-        op_is = ap (λ ts. op_of (head ts)) (sym f);
+        token_is = ap head (sym f);
         rest_is = none_left s at sk.within le ∙ ap tail (sym f);
         onward = sk.onward;
         moves = λ h. absurd (omega arith);
@@ -112,12 +106,12 @@ module _ (s : List ℕ) (from at : ℕ) (sk : Skipped s from at) where
   -- the mark of a proposition
   pub lettered : at < length s → get_or s at 0 ≡ 112 → (m : Mark) → Lettered s (at + 1) m → Next s from m
   unfolding lex_sign sign_of
-  lettered lt e m l = marked (Leaf m.op) m.next (split s at lt (ap sign_of e) ∙ l.split) (omega (arith, l.onward)) l.within m l.number_is refl refl
+  lettered lt e m l = marked m (split s at lt (ap sign_of e) ∙ l.split) (omega (arith, l.onward)) l.within
 
   -- the mark of a token that is one byte
-  pub single : at < length s → (get_or s at 0 ≡ 112 → ⊥) → {k : Sign} → k ≡ sign_of (get_or s at 0) → {t : Token} → t ≡ token_of k → (m : Mark) → m ≡ mark_of t (at + 1) → Next s from m
-  single lt n {k} e {t} f m g =
+  pub single : at < length s → (get_or s at 0 ≡ 112 → ⊥) → {k : Sign} → k ≡ sign_of (get_or s at 0) → {t : Token} → t ≡ token_of k → Next s from (record { token = t; next = at + 1 })
+  single lt n {k} e {t} f =
       let no_letter : sign_of (get_or s at 0) ≡ Letter → ⊥ = λ l. n (subst (λ k. Byte k (get_or s at 0)) l (byte_of (get_or s at 0))) in
       let first : tokens s at ≡ t ∷ tokens s (at + 1) =
       split s at lt refl ∙ alone (sign_of (get_or s at 0)) (sk.stops lt) no_letter _ _ ∙ ap (λ u. u ∷ tokens s (at + 1)) (sym (f ∙ ap token_of e)) in
-      marked t (at + 1) first (omega arith) (omega arith) m (ap (λ x. x.number) g) (ap (λ x. x.op) g) (ap (λ x. x.next) g)
+      marked (record { token = t; next = at + 1 }) first (omega arith) (omega arith)

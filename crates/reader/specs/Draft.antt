@@ -8,7 +8,7 @@ use Rattle.syntax.specs.declared.Token.TheVariants.{Leaf, Prefix, Infix, Open, C
 use Rattle.syntax.specs.declared.Sign.{Sign}
 use Rattle.syntax.specs.declared.Sign.TheVariants.{Blank, Digit, Letter, Before, Between, Dash, Angle, Left, Right, Other}
 use Rattle.syntax.specs.Bytes.{sign_of, gap, leaf_of, lex_name, tokens}
-use Rattle.syntax.specs.Reader.{Got, number, op_of, head, tail}
+use Rattle.syntax.specs.Reader.{Got, number, head, tail}
 use Rattle.reader.specs.declared.Mark.{Mark}
 use Rattle.reader.specs.declared.Draft.{Draft}
 
@@ -41,29 +41,23 @@ token_of Blank = End
 token_of Angle = End
 token_of Other = End
 
--- the mark of a token that ends before `next`
-abbrev pub mark_of : Token → ℕ → Mark
-mark_of t next = record { number = number t; op = op_of t; next = next }
-
 -- m is the proposition whose name goes on at `at`, behind its `p`
 pub record Lettered (s : List ℕ) (at : ℕ) (m : Mark) : Type 0 where
-  pub number_is : m.number ≡ 5
-  pub split : lex_name (drop at s) ≡ Leaf m.op ∷ tokens s m.next
+  pub split : lex_name (drop at s) ≡ m.token ∷ tokens s m.next
   pub onward : at ≤ m.next
   pub within : m.next ≤ length s
 
 -- m is the first token from `from` on
 pub record Next (s : List ℕ) (from : ℕ) (m : Mark) : Type 0 where
-  pub number_is : m.number ≡ number (head (tokens s from))
-  pub op_is : m.op ≡ op_of (head (tokens s from))
+  pub token_is : m.token ≡ head (tokens s from)
   pub rest_is : tokens s m.next ≡ tail (tokens s from)
   pub onward : from ≤ m.next
-  pub moves : m.number < 8 → from < m.next
+  pub moves : number m.token < 8 → from < m.next
   pub within : m.next ≤ length s
 
--- the draft with the operator of a mark written
-abbrev pub closed_by : Draft → Mark → Draft
-closed_by d m = record { at = d.at; rule = pushed d.rule m.op }
+-- the draft with an operator written
+abbrev pub closed_by : Draft → Op → Draft
+closed_by d o = record { at = d.at; rule = pushed d.rule o }
 
 -- the draft with a mark passed
 abbrev pub past_mark : Draft → Mark → Draft

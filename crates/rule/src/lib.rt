@@ -41,12 +41,8 @@ pub enum Printed {
 pub fn read_rule(plant: Plant, fair: &[u64], label: &[u16], next: &[u64], text: &[u8]) -> RuleRead
     ensures { result ≡ rule_read plant fair.now label.now next.now text.now }
 {
-    let checked = plant::check_table(plant, fair, label, next);
-    match checked {
-        Outcome::Refused(refusal) => {
-            let kind = refusal.kind;
-            RuleRead::refused(kind, refusal.place)
-        }
+    match plant::check_table(plant, fair, label, next) {
+        Outcome::Refused(refusal) => RuleRead::refused(refusal.kind, refusal.place),
         Outcome::Accepted => rule_text::read_text(text, plant.props),
     }
 }
@@ -56,12 +52,12 @@ pub fn print_rule(rule: Rule, buffer: &mut [u8]) -> Printed
     ensures answer { result ≡ print_answer rule buffer.old }
     ensures buffer { buffer.new ≡ print_buffer rule buffer.old }
 {
-    if is_valid(rule, Rule::NAMES) {
-        if buffer.len() < printer::room_of(rule) {
-            return Printed::Refused(Refusal::at(Kind::Room, 0));
-        }
-        let bytes = printer::put_rule(rule, buffer);
-        return Printed::Text(Length { bytes });
+    if !is_valid(rule, Rule::NAMES) {
+        return Printed::Refused(Refusal::at(Kind::Value, 0));
     }
-    Printed::Refused(Refusal::at(Kind::Value, 0))
+    if buffer.len() < printer::room_of(rule) {
+        return Printed::Refused(Refusal::at(Kind::Room, 0));
+    }
+    let bytes = printer::put_rule(rule, buffer);
+    Printed::Text(Length { bytes })
 }

@@ -11,17 +11,15 @@
 mod value;
 
 use answers::{Outcome, Refusal};
-use cases::{field, find, number};
+use cases::{field, number};
 use plant::Plant;
 use program::said::{put, put_decimal};
 use rule::Printed;
-use rule_text::RuleRead;
 use syntax::Rule;
 
 fn tell<P: Print>(to: &P, refusal: Refusal) {
-    let kind = refusal.kind;
     put(to, b"refused=");
-    put_decimal(to, kind.number() as u64);
+    put_decimal(to, u64::from(refusal.kind.number()));
     put(to, b" place=");
     put_decimal(to, refusal.place as u64);
     put(to, b"\n");
@@ -36,8 +34,7 @@ fn show<P: Print>(to: &P, text: &[u8], n: usize) {
 }
 
 fn print<P: Print>(to: &P, rule: Rule, buffer: &mut [u8]) {
-    let printed = rule::print_rule(rule, buffer);
-    match printed {
+    match rule::print_rule(rule, buffer) {
         Printed::Text(text) => show(to, buffer, text.bytes),
         Printed::Refused(refusal) => tell(to, refusal),
     }
@@ -51,15 +48,10 @@ fn read<P: Print>(to: &P, props: usize, start: u64, text: &[u8]) {
         start,
         just: 0,
     };
-    let fair = [0u64];
-    let label = [0u16, 1, 2];
-    let next = [3u64, 6, 5];
-    let reading: RuleRead = rule::read_rule(plant, &fair[..0], &label, &next, text);
-    let rule = reading.rule;
-    let outcome = reading.outcome;
+    let reading = rule::read_rule(plant, &[], &[0, 1, 2], &[3, 6, 5], text);
     let mut buffer = [0u8; 109];
-    match outcome {
-        Outcome::Accepted => print(to, rule, &mut buffer),
+    match reading.outcome {
+        Outcome::Accepted => print(to, reading.rule, &mut buffer),
         Outcome::Refused(refusal) => tell(to, refusal),
     }
 }
@@ -99,11 +91,7 @@ fn into<P: Print>(to: &P, rule: Rule, buffer: &mut [u8]) {
 }
 
 fn letter(line: &[u8]) -> u8 {
-    let kind = field(line, b'#', 1);
-    if kind.len() == 0 {
-        return 0;
-    }
-    kind[0]
+    field(line, b'#', 1).first().copied().unwrap_or(0)
 }
 
 fn case<P: Print>(to: &P, line: &[u8]) {
@@ -118,11 +106,8 @@ fn case<P: Print>(to: &P, line: &[u8]) {
 }
 
 fn each<P: Print>(to: &P, input: &[u8]) {
-    let mut at = 0;
-    while at < input.len() {
-        let end = find(input, at, input.len(), b'\n');
-        case(to, &input[at..end]);
-        at = if end < input.len() { end + 1 } else { end };
+    for line in input.split_inclusive(|byte| *byte == b'\n') {
+        case(to, line.strip_suffix(b"\n").unwrap_or(line));
     }
 }
 

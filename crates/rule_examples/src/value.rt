@@ -2,13 +2,6 @@
 // operator in a text (`>` for the arrow).
 use syntax::{Node, Op, Rule};
 
-fn leaf(byte: u8) -> Op {
-    if byte < b'a' {
-        return Op::False;
-    }
-    Op::Prop(byte - b'a')
-}
-
 fn op_of(byte: u8) -> Op {
     match byte {
         b'0' => Op::False,
@@ -22,7 +15,8 @@ fn op_of(byte: u8) -> Op {
         b'&' => Op::And,
         b'|' => Op::Or,
         b'>' => Op::Implies,
-        _ => leaf(byte),
+        b'a'..=255 => Op::Prop(byte - b'a'),
+        _ => Op::False,
     }
 }
 
@@ -30,14 +24,8 @@ fn op_of(byte: u8) -> Op {
 pub fn value(len: usize, code: &[u8]) -> Rule {
     let mut nodes = [b'0'; Rule::MAX];
     cases::bytes_of(code, &mut nodes);
-    let mut rule = Rule::empty();
-    rule.len = len;
-    let mut i = 0;
-    while i < Rule::MAX {
-        rule.nodes[i] = Node {
-            op: op_of(nodes[i]),
-        };
-        i += 1;
+    Rule {
+        len,
+        nodes: nodes.map(|byte| Node { op: op_of(byte) }),
     }
-    rule
 }

@@ -19,11 +19,9 @@ impl RuleRead {
     pub fn refused(kind: Kind, place: usize) -> Self
         ensures { result ≡ no_rule kind place }
     {
-        let rule = Rule::empty();
-        let refusal = Refusal::at(kind, place);
         RuleRead {
-            outcome: Outcome::Refused(refusal),
-            rule,
+            outcome: Outcome::Refused(Refusal::at(kind, place)),
+            rule: Rule::empty(),
         }
     }
 }
@@ -42,14 +40,9 @@ fn is_unknown(text: &[u8], at: usize, props: usize) -> bool
     ensures { result ≡ unknown props (get_or text.now at 0) (drop (at + 1) text.now) }
 {
     let next = at + 1;
-    if text.len() <= next {
-        return false;
-    }
-    if text[at] != b'p' {
-        return false;
-    }
-    let name = syntax::name_at(text, next);
-    props <= name.number as usize
+    next < text.len()
+        && text[at] == b'p'
+        && props <= usize::from(syntax::name_at(text, next).number)
 }
 
 // The first such place.
@@ -57,12 +50,10 @@ fn is_unknown(text: &[u8], at: usize, props: usize) -> bool
 fn unknown_at(text: &[u8], props: usize) -> Found
     ensures { result ≡ unknown_at props 0 text.now }
 {
-    let mut at = 0;
-    while at < text.len() {
+    for at in 0..text.len() {
         if is_unknown(text, at, props) {
             return Found::At(at);
         }
-        at += 1;
     }
     Found::Nowhere
 }
@@ -87,8 +78,7 @@ fn within_limits(rule: Rule) -> RuleRead
 fn read_good(text: &[u8], props: usize) -> RuleRead
     ensures { result ≡ named text.now props }
 {
-    let found = unknown_at(text, props);
-    match found {
+    match unknown_at(text, props) {
         Found::At(place) => RuleRead::refused(Kind::Proposition, place),
         Found::Nowhere => within_limits(reader::parse_rule(text)),
     }
@@ -101,8 +91,7 @@ pub fn read_text(text: &[u8], props: usize) -> RuleRead
     if Rule::TEXT < text.len() {
         return RuleRead::refused(Kind::RuleLength, Rule::TEXT);
     }
-    let scan = scanner::scan_text(text);
-    match scan {
+    match scanner::scan_text(text) {
         Scan::Bad(place) => RuleRead::refused(Kind::RuleText, place),
         Scan::Good => read_good(text, props),
     }

@@ -12,10 +12,9 @@ use syntax::Rule;
 pub fn is_valid(rule: Rule, props: usize) -> bool
     ensures { result ≡ valid_of rule props }
 {
-    let short = rule.len <= Rule::MAX;
-    let one = nodes::is_whole(rule);
-    let known = nodes::all_known(rule, props);
-    let few = syntax::parts_of(rule) <= Rule::PARTS;
-    let rest = nodes::rest_blank(rule);
-    short & one & known & few & rest
+    rule.len <= Rule::MAX
+        && nodes::is_whole(rule)
+        && nodes::all_known(rule, props)
+        && syntax::parts_of(rule) <= Rule::PARTS
+        && nodes::rest_blank(rule)
 }

@@ -12,91 +12,48 @@ fn is_known(op: Op, props: usize) -> bool
     ensures { result ≡ known props op }
 {
     match op {
-        Op::False => true,
-        Op::True => true,
-        Op::Prop(k) => (k as usize) < props,
-        Op::Not => true,
-        Op::Next => true,
-        Op::Finally => true,
-        Op::Globally => true,
-        Op::Until => true,
-        Op::Release => true,
-        Op::And => true,
-        Op::Or => true,
-        Op::Implies => true,
+        Op::Prop(k) => usize::from(k) < props,
+        _ => true,
     }
 }
 
 fn is_false(op: Op) -> bool
     ensures { result ≡ is_false op }
 {
-    match op {
-        Op::False => true,
-        Op::True => false,
-        Op::Prop(_) => false,
-        Op::Not => false,
-        Op::Next => false,
-        Op::Finally => false,
-        Op::Globally => false,
-        Op::Until => false,
-        Op::Release => false,
-        Op::And => false,
-        Op::Or => false,
-        Op::Implies => false,
-    }
+    op == Op::False
 }
 
 // Whether the nodes are those of one rule: each finds its operands, and one rule is left.
 pub fn is_whole(rule: Rule) -> bool
     ensures { result ≡ whole (held rule) 0 }
 {
-    let len = rule.stored();
     let mut depth: usize = 0;
-    let mut at = 0;
-    while at < len {
-        let node = rule.nodes[at];
-        let op = node.op;
-        let sides = syntax::sides_of(op);
+    for node in &rule.nodes[..rule.stored()] {
+        let sides = syntax::sides_of(node.op);
         if depth < sides {
             return false;
         }
         depth = depth + 1 - sides;
-        at += 1;
     }
     depth == 1
 }
 
 // Whether each proposition is below `props`.
+
 pub fn all_known(rule: Rule, props: usize) -> bool
     ensures { result ≡ every (known props) (held rule) }
 {
-    let len = rule.stored();
-    let mut at = 0;
-    while at < len {
-        let node = rule.nodes[at];
-        let op = node.op;
-        if is_known(op, props) {
-            at += 1;
-        } else {
-            return false;
-        }
-    }
-    true
+    rule.nodes[..rule.stored()]
+        .iter()
+        .all(|node| is_known(node.op, props))
 }
 
 // Whether the nodes from the length on are False.
+
 pub fn rest_blank(rule: Rule) -> bool
     ensures { result ≡ every is_false (beyond rule) }
 {
-    let mut at = rule.len;
-    while at < Rule::MAX {
-        let node = rule.nodes[at];
-        let op = node.op;
-        if is_false(op) {
-            at += 1;
-        } else {
-            return false;
-        }
-    }
-    true
+    rule.nodes[rule.stored()..]
+        .iter()
+        .all(|node| is_false(node.op))
 }

@@ -12,18 +12,8 @@ use Rattle.syntax.specs.declared.Move.TheVariants.{ToOperand, ToNumber, ToTeen, 
 use Rattle.syntax.specs.declared.State.{State}
 use Rattle.syntax.specs.declared.Scan.TheVariants.{Bad}
 use Rattle.syntax.specs.Bytes.{sign_of}
-use Rattle.syntax.specs.Scan.{at, lone, closes, moved, step, dead, scan_from}
+use Rattle.syntax.specs.Scan.{at, closes, moved, step, dead, scan_from}
 use Rattle.syntax.proofs.Places.{byte}
-
-pub lone_small : (k : ℕ) → k < 2 → ToOperator ≡ lone k
-lone_small zero h = refl
-lone_small (suc zero) h = refl
-lone_small (suc (suc k)) h = absurd (omega arith)
-
-pub lone_large : (k : ℕ) → 2 ≤ k → Stops ≡ lone k
-lone_large zero h = absurd (omega arith)
-lone_large (suc zero) h = absurd (omega arith)
-lone_large (suc (suc k)) h = refl
 
 pub closes_none : (d : ℕ) → d ≡ 0 → at Stuck d ≡ closes d
 unfolding closes

@@ -2,61 +2,32 @@
 #![tactic(auto)]
 
 ghost use Rattle.std.specs.Prelude.{◌≡◌, ◌<◌};
-ghost use Rattle.syntax.specs.Scan.{lone, operand, named, digit, teen, operator, angle, move, closes, moved, ends, dead, scan};
+ghost use Rattle.syntax.specs.Scan.{operand, digit, teen, operator, angle, move, closes, moved, ends, dead, scan};
 
 use syntax::{Mode, Move, Scan, Sign, State};
 
-// A digit that stands alone is 0 or 1.
-fn lone_digit(k: u8) -> Move
-    ensures { result ≡ lone k }
-{
-    if k < 2 { Move::ToOperator } else { Move::Stops }
-}
-
-// An operand is to come.
+// An operand is to come. A digit that stands alone is 0 or 1.
 fn at_operand(sign: Sign) -> Move
     ensures { result ≡ operand sign }
 {
     match sign {
-        Sign::Blank => Move::ToOperand,
-        Sign::Digit(k) => lone_digit(k),
+        Sign::Blank | Sign::Before(_) => Move::ToOperand,
+        Sign::Digit(0 | 1) => Move::ToOperator,
         Sign::Letter => Move::ToNumber,
-        Sign::Before(_) => Move::ToOperand,
-        Sign::Between(_) => Move::Stops,
-        Sign::Dash => Move::Stops,
-        Sign::Angle => Move::Stops,
         Sign::Left => Move::Opens,
-        Sign::Right => Move::Stops,
-        Sign::Other => Move::Stops,
+        _ => Move::Stops,
     }
 }
 
-// The first digit of a name: behind 1 another may come.
-fn first_digit(k: u8) -> Move
-    ensures { result ≡ named k }
-{
-    if k == 1 {
-        Move::ToTeen
-    } else {
-        Move::ToOperator
-    }
-}
-
-// The first digit of a name is to come.
+// The first digit of a name is to come: behind 1 another may come.
+#[tactic(auto, unfolding(syntax::specs::Scan::named))]
 fn at_digit(sign: Sign) -> Move
     ensures { result ≡ digit sign }
 {
     match sign {
-        Sign::Blank => Move::Stops,
-        Sign::Digit(k) => first_digit(k),
-        Sign::Letter => Move::Stops,
-        Sign::Before(_) => Move::Stops,
-        Sign::Between(_) => Move::Stops,
-        Sign::Dash => Move::Stops,
-        Sign::Angle => Move::Stops,
-        Sign::Left => Move::Stops,
-        Sign::Right => Move::Stops,
-        Sign::Other => Move::Stops,
+        Sign::Digit(1) => Move::ToTeen,
+        Sign::Digit(_) => Move::ToOperator,
+        _ => Move::Stops,
     }
 }
 
@@ -66,19 +37,15 @@ fn at_operator(sign: Sign) -> Move
 {
     match sign {
         Sign::Blank => Move::ToOperator,
-        Sign::Digit(_) => Move::Stops,
-        Sign::Letter => Move::Stops,
-        Sign::Before(_) => Move::Stops,
         Sign::Between(_) => Move::ToOperand,
         Sign::Dash => Move::ToArrow,
-        Sign::Angle => Move::Stops,
-        Sign::Left => Move::Stops,
         Sign::Right => Move::Closes,
-        Sign::Other => Move::Stops,
+        _ => Move::Stops,
     }
 }
 
 // Behind `p1`: the second digit of a name, or what follows a name.
+#[tactic(auto, unfolding(syntax::specs::Scan::teen))]
 fn at_teen(sign: Sign) -> Move
     ensures { result ≡ teen sign }
 {
@@ -94,16 +61,8 @@ fn at_angle(sign: Sign) -> Move
     ensures { result ≡ angle sign }
 {
     match sign {
-        Sign::Blank => Move::Stops,
-        Sign::Digit(_) => Move::Stops,
-        Sign::Letter => Move::Stops,
-        Sign::Before(_) => Move::Stops,
-        Sign::Between(_) => Move::Stops,
-        Sign::Dash => Move::Stops,
         Sign::Angle => Move::ToOperand,
-        Sign::Left => Move::Stops,
-        Sign::Right => Move::Stops,
-        Sign::Other => Move::Stops,
+        _ => Move::Stops,
     }
 }
 
@@ -122,6 +81,7 @@ fn move_of(mode: Mode, sign: Sign) -> Move
 }
 
 // The state after a `)`, where `depth` parentheses are open.
+#[tactic(auto, using(crate::proofs::Turn::closes_none, crate::proofs::Turn::closes_one))]
 fn after_close(depth: usize) -> State
     ensures { result ≡ closes depth }
 {
@@ -180,28 +140,14 @@ fn state_after(depth: usize, by: Move) -> State
 fn is_dead(mode: Mode) -> bool
     ensures { result ≡ dead mode }
 {
-    match mode {
-        Mode::Stuck => true,
-        Mode::Operand => false,
-        Mode::Number => false,
-        Mode::Teen => false,
-        Mode::Operator => false,
-        Mode::Arrow => false,
-    }
+    mode == Mode::Stuck
 }
 
 // Whether the text may end here.
 fn may_end(mode: Mode, depth: usize) -> bool
     ensures { result ≡ ends mode depth }
 {
-    match mode {
-        Mode::Operator => depth == 0,
-        Mode::Teen => depth == 0,
-        Mode::Operand => false,
-        Mode::Number => false,
-        Mode::Arrow => false,
-        Mode::Stuck => false,
-    }
+    matches!(mode, Mode::Operator | Mode::Teen) && depth == 0
 }
 
 // Whether a text is of the grammar; if not, the first place at which what is read begins no text, or its end.
@@ -212,20 +158,15 @@ pub fn scan_text(text: &[u8]) -> Scan
         mode: Mode::Operand,
         depth: 0,
     };
-    let mut at = 0;
-    while at < text.len() {
-        let mode = state.mode;
-        state = state_after(state.depth, move_of(mode, syntax::sign_of(text[at])));
-        let now = state.mode;
-        if is_dead(now) {
+    for (at, byte) in text.iter().enumerate() {
+        state = state_after(state.depth, move_of(state.mode, syntax::sign_of(*byte)));
+        if is_dead(state.mode) {
             return Scan::Bad(at);
         }
-        at += 1;
     }
-    let mode = state.mode;
-    if may_end(mode, state.depth) {
+    if may_end(state.mode, state.depth) {
         Scan::Good
     } else {
-        Scan::Bad(at)
+        Scan::Bad(text.len())
     }
 }

@@ -14,12 +14,10 @@ fn scenario<R: Files + Print>(rt: &R, folder: &[u8], line: &[u8]) {
 }
 
 fn each<R: Files + Print>(rt: &R, list: &[u8]) {
-    let mut at = 0;
-    while at < list.len() {
-        let end = find(list, at, list.len(), b'\n');
-        let colon = find(list, at, end, b':');
-        scenario(rt, &list[at..colon], &list[at..end]);
-        at = if end < list.len() { end + 1 } else { end };
+    for ended in list.split_inclusive(|byte| *byte == b'\n') {
+        let line = ended.strip_suffix(b"\n").unwrap_or(ended);
+        let colon = find(line, 0, line.len(), b':');
+        scenario(rt, &line[..colon], line);
     }
 }
 

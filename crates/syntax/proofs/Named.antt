@@ -16,6 +16,10 @@ use Rattle.syntax.specs.Bytes.{sign_of, digit_of, goes_on, teen_of, teen_bytes, 
 use Rattle.syntax.proofs.Places.{byte, at_end_lem}
 use Rattle.syntax.proofs.Lexing.{Byte, byte_of, by_digits, spelt_one, spelt_two, sign_digit, name_is}
 
+-- a byte up to `9`
+pub last_digit : (b : ℕ) → b < 58 → b ≤ 57
+last_digit b h = omega arith
+
 -- what makes a name longer is a digit
 pub goes_digit : (x : Sign) → goes_on x ≡ true → (x ≡ Digit (digit_of x)) × (10 + digit_of x < names)
 goes_digit (Digit k) e = (refl, ltb-true (10 + k) names e)

@@ -50,10 +50,9 @@ impl Rule {
     pub fn empty() -> Self
         ensures { result ≡ empty_rule }
     {
-        let none = Node { op: Op::False };
         Rule {
             len: 0,
-            nodes: [none; 32],
+            nodes: [Node { op: Op::False }; Rule::MAX],
         }
     }
 
@@ -61,8 +60,7 @@ impl Rule {
     pub fn stored(self) -> usize
         ensures { result ≡ stored self }
     {
-        let len = self.len;
-        if Rule::MAX < len { Rule::MAX } else { len }
+        self.len.min(Rule::MAX)
     }
 }
 
@@ -129,6 +127,7 @@ pub enum Scan {
 }
 
 // What one byte may be.
+#[tactic(auto, using(crate::proofs::Named::last_digit), unfolding(crate::specs::Bytes::sign_of))]
 pub fn sign_of(b: u8) -> Sign
     ensures { result ≡ sign_of b }
 {
@@ -158,15 +157,7 @@ pub fn digit_of(sign: Sign) -> u8
 {
     match sign {
         Sign::Digit(k) => k,
-        Sign::Blank => 0,
-        Sign::Angle => 0,
-        Sign::Other => 0,
-        Sign::Letter => 0,
-        Sign::Before(_) => 0,
-        Sign::Between(_) => 0,
-        Sign::Dash => 0,
-        Sign::Left => 0,
-        Sign::Right => 0,
+        _ => 0,
     }
 }
 
@@ -175,16 +166,8 @@ pub fn goes_on(sign: Sign) -> bool
     ensures { result ≡ goes_on sign }
 {
     match sign {
-        Sign::Digit(k) => 10 + (k as usize) < Rule::NAMES,
-        Sign::Blank => false,
-        Sign::Angle => false,
-        Sign::Other => false,
-        Sign::Letter => false,
-        Sign::Before(_) => false,
-        Sign::Between(_) => false,
-        Sign::Dash => false,
-        Sign::Left => false,
-        Sign::Right => false,
+        Sign::Digit(k) => 10 + usize::from(k) < Rule::NAMES,
+        _ => false,
     }
 }
 
@@ -196,13 +179,13 @@ pub struct Name {
 }
 
 // What the byte at a place may be; beyond the end none stands.
+#[tactic(auto, using(crate::proofs::Named::none_there))]
 fn sign_at(text: &[u8], at: usize) -> Sign
     ensures { result ≡ sign_of (get_or text.now at 0) }
 {
-    if at < text.len() {
-        sign_of(text[at])
-    } else {
-        Sign::Other
+    match text.get(at) {
+        Some(byte) => sign_of(*byte),
+        None => Sign::Other,
     }
 }
 
@@ -219,14 +202,8 @@ pub fn name_at(text: &[u8], at: usize) -> Name
     }
     let next = at + 1;
     let first = digit_of(sign_of(text[at]));
-    if first != 1 {
-        return Name {
-            number: first,
-            next,
-        };
-    }
     let sign = sign_at(text, next);
-    if goes_on(sign) {
+    if first == 1 && goes_on(sign) {
         return Name {
             number: 10 + digit_of(sign),
             next: next + 1,
@@ -243,18 +220,9 @@ pub fn sides_of(op: Op) -> usize
     ensures { result ≡ sides op }
 {
     match op {
-        Op::False => 0,
-        Op::True => 0,
-        Op::Prop(_) => 0,
-        Op::Not => 1,
-        Op::Next => 1,
-        Op::Finally => 1,
-        Op::Globally => 1,
-        Op::Until => 2,
-        Op::Release => 2,
-        Op::And => 2,
-        Op::Or => 2,
-        Op::Implies => 2,
+        Op::False | Op::True | Op::Prop(_) => 0,
+        Op::Not | Op::Next | Op::Finally | Op::Globally => 1,
+        Op::Until | Op::Release | Op::And | Op::Or | Op::Implies => 2,
     }
 }
 
@@ -262,41 +230,19 @@ pub fn sides_of(op: Op) -> usize
 pub fn is_part(op: Op) -> bool
     ensures { result ≡ is_part op }
 {
-    match op {
-        Op::False => false,
-        Op::True => false,
-        Op::Prop(_) => false,
-        Op::Not => false,
-        Op::Next => true,
-        Op::Finally => true,
-        Op::Globally => true,
-        Op::Until => true,
-        Op::Release => true,
-        Op::And => false,
-        Op::Or => false,
-        Op::Implies => false,
-    }
-}
-
-// 1 for a temporal part.
-fn temporal_of(op: Op) -> usize
-    ensures { result ≡ cond (is_part op) 1 0 }
-{
-    if is_part(op) { 1 } else { 0 }
+    matches!(
+        op,
+        Op::Next | Op::Finally | Op::Globally | Op::Until | Op::Release
+    )
 }
 
 // How many temporal parts a rule has.
+#[tactic(auto, using(crate::proofs::Held::count_held))]
 pub fn parts_of(rule: Rule) -> usize
     ensures { result ≡ count (held rule) }
 {
-    let len = rule.stored();
-    let mut parts: usize = 0;
-    let mut at = 0;
-    while at < len {
-        let node = rule.nodes[at];
-        let op = node.op;
-        parts += temporal_of(op);
-        at += 1;
-    }
-    parts
+    rule.nodes[..rule.stored()]
+        .iter()
+        .filter(|node| is_part(node.op))
+        .count()
 }

@@ -3,4 +3,4 @@ use Rattle.reader.proofs.Tokens.{name_there}
 use Rattle.reader.proofs.letter_at.Goals as goal
 
 pub returns : goal.returns
-returns c = name_there _ _ _ c.name_at-name.ensures _ c.mark_of.ensures
+returns c = name_there _ _ _ c.name_at-name.ensures

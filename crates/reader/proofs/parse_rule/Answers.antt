@@ -11,4 +11,4 @@ pub returns : goal.returns
 unfolding parse
 returns c =
     let s = c.args.text.now in
-    (c.read_arrow-whole.ensures.leads (8 * length s + 6) (omega arith)).rule_is ∙ ap (λ r. written r (parse s)) c.empty-rule.ensures
+    (c.read_arrow.ensures.leads (8 * length s + 6) (omega arith)).rule_is ∙ ap (λ r. written r (parse s)) c.empty.ensures

@@ -1,6 +1,4 @@
--- `reader::skip` meets its contract. The loop's invariant: from here on stand the tokens that stood from `from` on.
--- The measure is what is left of the text. Assumes nothing.
-use Prim.Native.Nat.{◌-◌}
+-- `reader::skip` meets its contract. Assumes nothing.
 use native.Mathlib.Omega.{arith}
 use borrow.Author.Tests.{not-false}
 use Rattle.syntax.specs.Bytes.{gap}

@@ -1,10 +1,6 @@
 -- `scanner::scan_text` meets its contract. The loop's invariant: from here on, in the state reached, the scanner answers what it answers from the start;
--- and no more parentheses are open than bytes are read. The measure is what is left of the text. Assumes nothing.
-use Prim.Native.Nat.{◌+◌, ◌-◌}
-use mathlib.Core.Bool.{cond}
-use mathlib.Core.Path.{◌≡◌, refl, sym, ap, ◌∙◌}
-use native.Mathlib.Omega.{arith}
-use lib.ListN.{drop}
+-- and no more parentheses are open than bytes are read. Assumes nothing.
+use Rattle.std.proofs.Common.{ℕ, [], ◌+◌, ◌≡◌, refl, sym, ap, ◌∙◌, cond, arith, length, drop}
 use Rattle.syntax.specs.declared.Scan.TheVariants.{Good, Bad}
 use Rattle.syntax.specs.Scan.{move, moved, scan_from, scan}
 use Rattle.syntax.proofs.Places.{at_end_lem}
@@ -25,11 +21,13 @@ stepped c =
     ∙ sym (turn l.state c.state_after-state.result l.at s c.loop-at-test.true e) ∙ l.invariant.2
 
 -- after the loop, it answers by whether the text may end
-ended : (c : goal.After-may_end) → cond c.may_end.result Good (Bad c.loop-at.at) ≡ scan c.args.text.now
+ended : (c : goal.After-may_end) → cond c.may_end.result Good (Bad (length c.args.text.now)) ≡ scan c.args.text.now
 unfolding scan_from
 ended c =
     let l = c.loop-at in
-    ap (λ b. cond b Good (Bad l.at)) c.may_end.ensures ∙ sym (ap (scan_from l.state l.at) (at_end_lem _ l.at l.invariant.0 c.loop-at-test.false)) ∙ l.invariant.2
+    let e : length c.args.text.now ≡ l.at = omega (arith, l.invariant.0, c.loop-at-test.false) in
+    ap (λ b. cond b Good (Bad (length c.args.text.now))) c.may_end.ensures ∙ ap (λ (k : ℕ). scan_from l.state k []) e
+    ∙ sym (ap (scan_from l.state l.at) (at_end_lem _ l.at l.invariant.0 c.loop-at-test.false)) ∙ l.invariant.2
 
 pub loop-at-init : goal.loop-at-init
 unfolding scan
@@ -42,7 +40,7 @@ pub loop-at-preserved : goal.loop-at-preserved
 loop-at-preserved c =
     let l = c.loop-at in
     let d = rw (sym c.state_after-state.ensures) at (shallow l.state.depth c.move_of.result) in
-    (omega arith, omega (arith, l.invariant.1), rw c.if-is_dead.false at (stepped (goal.at.loop-at-preserved c).After-is_dead))
+    (omega (arith, c.loop-at-test.true), omega (arith, l.invariant.1), rw c.if-is_dead.false at (stepped (goal.at.loop-at-preserved c).After-is_dead))
 
 pub returns-then-may_end : goal.returns-then-may_end
 returns-then-may_end c = rw c.if-may_end.true at (ended (goal.at.returns-then-may_end c).After-may_end)
