@@ -41,11 +41,12 @@ fn reached_at(
     requires { (count ≤ 64) × (w < 64) }
     ensures { result ≡ reached_at next.now old.now (from_in leave.now) (to_in enter.now) count w }
 {
-    let mut reached: u64 = 0;
-    for v in 0..count {
-        reached |= moved(next, leave, enter, old[v], v, w);
-    }
-    reached
+    old[..count]
+        .iter()
+        .enumerate()
+        .fold(0, |reached, (v, held)| {
+            reached | moved(next, leave, enter, *held, v, w)
+        })
 }
 
 // The same, cut to `kept`, the states that may stay; nothing is looked for where none may.
