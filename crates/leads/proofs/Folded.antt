@@ -1,5 +1,5 @@
 -- A fold over a range, and over the words from the first on, in the words of Below.
-use Rattle.std.proofs.Common.{◌≡◌, refl, sym, ap, ap₂, ◌∙◌, ℕ, zero, suc, ◌+◌, ◌<◌, ◌≤◌, List, [], ◌∷◌, length, take, get_or, fold, bit_and, bit_or, add-one, arith, length-take-le}
+use Rattle.std.proofs.Common.{◌≡◌, refl, sym, ap, ap₂, ◌∙◌, ℕ, zero, suc, ◌+◌, ◌<◌, ◌≤◌, List, [], ◌∷◌, length, take, get_or, fold, bit_and, bit_or, arith, length-take-le}
 use Rattle.std.proofs.lemmas.List.{get_or-take}
 use Rattle.std.specs.List.{range_with_len, enumerate_from}
 use Rattle.words.specs.Below.{shared_below, union_below}

@@ -1,5 +1,5 @@
 -- What the library's calls make: the first words of a set, and what is left after the goals of a fold.
-use Rattle.std.proofs.Common.{◌≡◌, refl, sym, ap, ◌∙◌, ℕ, zero, suc, ◌+◌, ◌<◌, List, ltb, fold, add-one, arith, lt-ltb}
+use Rattle.std.proofs.Common.{◌≡◌, refl, sym, ap, ◌∙◌, ℕ, zero, suc, ◌+◌, List, ltb, fold, add-one, arith, lt-ltb}
 use Rattle.std.specs.List.{range_with_len}
 use Rattle.words.specs.Word.{only_of}
 use Rattle.words.specs.Below.{words_below}

@@ -1,5 +1,5 @@
 -- The scan for moves by an iterator over the states tried: the members that are left are those of a word.
-use Rattle.std.proofs.Common.{◌≡◌, refl, sym, ◌∙◌, ℕ, zero, suc, ◌+◌, ◌^◌, ◌<◌, ◌≤◌, List, [], ◌∷◌, get_or, bit_and, arith}
+use Rattle.std.proofs.Common.{◌≡◌, refl, sym, ◌∙◌, ℕ, zero, suc, ◌+◌, ◌^◌, ◌<◌, List, [], ◌∷◌, get_or, bit_and, arith}
 use Rattle.words.specs.Word.{without_of}
 use Rattle.words.specs.Below.{union_below}
 use Rattle.words.specs.Lowest.{lowest_of, others_of, lowest_lt}

@@ -1,6 +1,6 @@
 -- `halves::leaving`: the words of the turns passed are stored, the others still 0.
 use mathlib.Core.Path.{◌≡◌, refl, ◌∙◌}
-use Prim.Native.Nat.{◌-◌, zero-le}
+use Prim.Native.Nat.{zero-le}
 use native.Mathlib.Omega.{arith}
 use Rattle.leads.specs.Halves.{halves_after, leaving_of}
 use Rattle.leads.specs.Laws.{halves_turn}

@@ -1,5 +1,5 @@
 -- `images::image`: the words passed are those of the image, the others still 0.
-use Prim.Native.Nat.{◌-◌, zero-le}
+use Prim.Native.Nat.{zero-le}
 use native.Mathlib.Omega.{arith}
 use native.Mathlib.Nat.{le_antisymm}
 use Rattle.words.specs.Lists.{words_none, words_turn}

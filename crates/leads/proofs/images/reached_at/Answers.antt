@@ -1,9 +1,9 @@
 -- `images::reached_at`: the fold is the union for the valuations.
-use Rattle.std.proofs.Common.{rules, arith, ◌∙◌, take, bit_or}
+use Rattle.std.proofs.Common.{rules, ◌∙◌, take, bit_or}
 use Rattle.std.proofs.lemmas.Iterator.{YieldsList-from_slice}
 use Rattle.std.proofs.lemmas.Iterator.Consumers.{fold_from_yields_List, YieldsList-from_enumerate}
 use Rattle.moves.specs.Image.{reached_at}
-use Rattle.leads.specs.Halves.{from_in, to_in, moved_of}
+use Rattle.leads.specs.Halves.{moved_of}
 use Rattle.leads.proofs.Folded.{union_by_places}
 use Rattle.leads.proofs.images.reached_at.Goals as goal
 

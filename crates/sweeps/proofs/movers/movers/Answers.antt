@@ -1,5 +1,5 @@
 -- `movers::movers`: the words passed are those of the pairs with a move, the others still 0.
-use Rattle.std.proofs.Common.{◌∙◌, ◌-◌, zero-le, arith, le_antisymm}
+use Rattle.std.proofs.Common.{◌∙◌, zero-le, arith, le_antisymm}
 use Rattle.words.specs.Lists.{words_none, words_turn}
 use Rattle.sweeps.specs.Laws.{movers_words}
 use Rattle.sweeps.proofs.movers.movers.Goals as goal

@@ -1,6 +1,6 @@
 -- `movers::scan_moves`: `rest` is what of `within` has no move into the words passed. In the inner loop the states tried are still to be
 -- dropped. Where none is left, all have a move.
-use Rattle.std.proofs.Common.{refl, ◌∙◌, ap, ◌-◌, ◌+◌, arith, le_antisymm, rules}
+use Rattle.std.proofs.Common.{refl, ◌∙◌, ap, rules}
 use Rattle.words.specs.MemberList.{members_of}
 use Rattle.moves.specs.Leading.{leading_at}
 use Rattle.sweeps.specs.Sweeps.{via_at, movers_at}

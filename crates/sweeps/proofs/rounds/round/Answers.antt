@@ -1,5 +1,5 @@
 -- `rounds::round`: the fold is what is left after the goals.
-use Rattle.std.proofs.Common.{rules, arith, ap, refl, ◌∙◌, ◌+◌, ◌-◌, ◌^◌, length}
+use Rattle.std.proofs.Common.{rules, arith, ap, refl, ◌∙◌, ◌+◌, length}
 use Rattle.std.proofs.lemmas.Iterator.{YieldsList-from_range}
 use Rattle.std.proofs.lemmas.Iterator.Consumers.{fold_from_yields_List}
 use Rattle.sweeps.specs.Rounds.{round_of}
