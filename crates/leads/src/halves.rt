@@ -50,7 +50,7 @@ fn meeting_from(
 fn middle(parts: usize) -> usize
     ensures { (result ≡ middle_of parts) × (result ≤ parts) }
 {
-    if parts < 3 { parts } else { 3 }
+    parts.min(3)
 }
 
 // For v, and a half of w. (Both halves in one turn: with one store a turn the compiler no longer unrolls them.)

@@ -8,6 +8,7 @@ use crate::halves::both;
 use pairs::Pairs;
 
 // The states that the members of `held` at v lead to at w. Most are empty.
+#[tactic(auto, using(crate::specs::Laws::moved_none))]
 fn moved(
     next: &[u64],
     leave: &[u64; 1024],
@@ -69,6 +70,7 @@ fn image_at(
 }
 
 // The live pairs with states of `agree` that the pairs of `old` lead to.
+#[tactic(auto, using(words::specs::Lists::words_none, words::specs::Lists::words_turn), unfolding(moves::specs::Image::image_of))]
 pub fn image(
     next: &[u64],
     leave: &[u64; 1024],

@@ -36,6 +36,7 @@ fn scan_moves(
 }
 
 // Most words of a late sweep are empty.
+#[tactic(auto, unfolding(crate::specs::Sweeps::movers_at))]
 fn movers_at(
     next: &[u64],
     leave: &[u64; 1024],
@@ -55,6 +56,7 @@ fn movers_at(
 }
 
 // The pairs of `within` with a move into `set`.
+#[tactic(auto, using(words::specs::Lists::words_none, words::specs::Lists::words_turn))]
 pub fn movers(
     next: &[u64],
     leave: &[u64; 1024],

@@ -28,6 +28,7 @@ fn settled_pairs(count: usize, settled: &[u64; 384], k: usize) -> Pairs
 }
 
 // Goal g: first the fairness sets, then the parts.
+#[tactic(auto, unfolding(crate::specs::Rounds::goal_of))]
 pub fn goal(fair: &[u64], count: usize, settled: &[u64; 384], g: usize) -> Pairs
     requires { (count ≤ 64) × (g < length fair.now + 6) }
     ensures { result.words ≡ goal_of fair.now count settled.now g }
@@ -84,6 +85,7 @@ fn settle(
 }
 
 // From all pairs of the table, those from which every goal is met again and again.
+#[tactic(auto, unfolding(crate::specs::Rounds::lasting_of))]
 pub fn lasting<'a>(
     states: usize,
     fair: &[u64],
