@@ -27,13 +27,13 @@ pub fn advance<'a>(
     ensures { result ≡ advanced_by label.now next.now leave.now enter.now holds.now count live.now monitor event }
 {
     let agree = labels::agreeing(label, event.see, event.val);
-    if monitor.seen {
-        if event.new {
-            return restarted(next, leave, enter, holds, count, live, monitor, agree);
-        }
-        return moved(next, leave, enter, count, live, monitor, agree);
+    if !monitor.seen {
+        kept(monitor, live, agree)
+    } else if event.new {
+        restarted(next, leave, enter, holds, count, live, monitor, agree)
+    } else {
+        moved(next, leave, enter, count, live, monitor, agree)
     }
-    kept(monitor, live, agree)
 }
 
 // So many events that were not received: nothing is seen of them, and they restart nothing, so both sides move.
@@ -51,12 +51,11 @@ pub fn catch_up<'a>(
     requires { (length label.now ≤ 64) × (count ≤ 64) }
     ensures { result ≡ caught_up_by label.now next.now leave.now enter.now count live.now monitor missing }
 {
-    let mut now = monitor;
-    for k in 0..missing {
-        let agree = labels::agreeing(label, 0, 0);
-        now = moved(next, leave, enter, count, live, now, agree);
-    }
-    now
+    let agree = labels::agreeing(label, 0, 0);
+    (0..missing).fold(
+        monitor,
+        |now, _| moved(next, leave, enter, count, live, now, agree),
+    )
 }
 
 // An event, behind so many that are missing before it. Mostly none is, and then nothing but the event is looked at.
@@ -89,10 +88,8 @@ pub fn take<'a>(
 pub fn lamp(monitor: Monitor) -> Lamp
     ensures { result ≡ lamp_in (model_of monitor) }
 {
-    let keeps = monitor.keeps;
-    let breaks = monitor.breaks;
-    let kept = keeps.states();
-    let broken = breaks.states();
+    let kept = monitor.keeps.states();
+    let broken = monitor.breaks.states();
     Lamp {
         verdict: Verdict::of(kept != 0, broken != 0),
         left: words::count(kept | broken),

@@ -9,11 +9,9 @@ pub fn having(label: &[u16], p: usize) -> u64
     requires { (length label.now ≤ 64) × (p < 64) }
     ensures { result ≡ having_of label.now p }
 {
-    let mut found: u64 = 0;
-    for s in 0..label.len() {
-        found |= words::only(words::has(words::wide(label[s]), p), words::single(s));
-    }
-    found
+    label.iter().enumerate().fold(0, |found, (s, l)| {
+        found | words::only(words::has(u64::from(*l), p), words::single(s))
+    })
 }
 
 // The states whose label has the value `val` in each proposition of `see`.
@@ -21,9 +19,7 @@ pub fn agreeing(label: &[u16], see: u16, val: u16) -> u64
     requires { length label.now ≤ 64 }
     ensures { result ≡ agreeing_of label.now see val }
 {
-    let mut found: u64 = 0;
-    for s in 0..label.len() {
-        found |= words::only((label[s] ^ val) & see == 0, words::single(s));
-    }
-    found
+    label.iter().enumerate().fold(0, |found, (s, l)| {
+        found | words::only((*l ^ val) & see == 0, words::single(s))
+    })
 }

@@ -20,13 +20,11 @@ fn fitting_from(
     requires { (first + many ≤ 6) × (v < 64) }
     ensures { result ≡ fitting_from first many low.now high.now v w }
 {
-    let mut fits: u64 = 0xffff_ffff_ffff_ffff;
-    for j in 0..many {
-        let k = first + j;
-        let x = words::choose(words::has(w as u64, k), high[v * 6 + k], low[v * 6 + k]);
-        fits &= words::choose(words::has(v as u64, k), x, !x);
-    }
-    fits
+    (first..first + many).fold(u64::MAX, |fits, k| {
+        let table = if words::has(w as u64, k) { high } else { low };
+        let x = table[v * 6 + k];
+        fits & if words::has(v as u64, k) { x } else { !x }
+    })
 }
 
 // The states at which the operands of the parts X among them have at w the values that the parts have in v.
@@ -41,21 +39,18 @@ fn meeting_from(
     requires { (first + many ≤ 6) × (w < 64) }
     ensures { result ≡ meeting_from first many nexts operand.now v w }
 {
-    let mut meets: u64 = 0xffff_ffff_ffff_ffff;
-    for j in 0..many {
-        let k = first + j;
+    (first..first + many).fold(u64::MAX, |meets, k| {
         let x = operand[w * 6 + k];
-        let y = words::choose(words::has(v as u64, k), x, !x);
-        meets &= words::choose(words::has(nexts, k), y, 0xffff_ffff_ffff_ffff);
-    }
-    meets
+        let y = if words::has(v as u64, k) { x } else { !x };
+        meets & if words::has(nexts, k) { y } else { u64::MAX }
+    })
 }
 
 // How many parts the first half has.
 fn middle(parts: usize) -> usize
     ensures { (result ≡ middle_of parts) × (result ≤ parts) }
 {
-    if parts < 3 { parts } else { 3 }
+    parts.min(3)
 }
 
 // For v, and a half of w. (Both halves in one turn: with one store a turn the compiler no longer unrolls them.)

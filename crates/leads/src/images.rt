@@ -8,6 +8,7 @@ use crate::halves::both;
 use pairs::Pairs;
 
 // The states that the members of `held` at v lead to at w. Most are empty.
+#[tactic(auto, using(crate::specs::Laws::moved_none))]
 fn moved(
     next: &[u64],
     leave: &[u64; 1024],
@@ -41,11 +42,12 @@ fn reached_at(
     requires { (count ≤ 64) × (w < 64) }
     ensures { result ≡ reached_at next.now old.now (from_in leave.now) (to_in enter.now) count w }
 {
-    let mut reached: u64 = 0;
-    for v in 0..count {
-        reached |= moved(next, leave, enter, old[v], v, w);
-    }
-    reached
+    old[..count]
+        .iter()
+        .enumerate()
+        .fold(0, |reached, (v, held)| {
+            reached | moved(next, leave, enter, *held, v, w)
+        })
 }
 
 // The same, cut to `kept`, the states that may stay; nothing is looked for where none may.
@@ -68,6 +70,7 @@ fn image_at(
 }
 
 // The live pairs with states of `agree` that the pairs of `old` lead to.
+#[tactic(auto, using(words::specs::Lists::words_none, words::specs::Lists::words_turn), unfolding(moves::specs::Image::image_of))]
 pub fn image(
     next: &[u64],
     leave: &[u64; 1024],

@@ -9,6 +9,7 @@ ghost use Rattle.sides.specs.Sides.{cut_of, kept_of, moved_by, restarted_by};
 use leads::images::image;
 use opening::split;
 use pairs::Pairs;
+use std::array;
 
 // Whether an event came, the pairs of the runs that keep the rule and of those that break it, and the number that the next event is expected
 // to have.
@@ -33,23 +34,20 @@ impl Monitor {
 fn cut(held: &[u64; 64], live: &[u64; 64], agree: u64) -> Pairs
     ensures { result.words ≡ cut_of held.now live.now agree }
 {
-    let mut words = [0u64; 64];
-    for v in 0..64 {
-        words[v] = words::entry(live, v) & agree & words::entry(held, v);
+    Pairs {
+        words: array::from_fn(|v| live[v] & agree & held[v]),
     }
-    Pairs { words }
 }
 
 // No move: both sets cut.
+#[tactic(auto, unfolding(crate::specs::Sides::kept_of))]
 pub fn kept(monitor: Monitor, live: &[u64; 64], agree: u64) -> Monitor
     ensures { result ≡ kept_of monitor live.now agree }
 {
-    let keeps = cut(&monitor.keeps.words, live, agree);
-    let breaks = cut(&monitor.breaks.words, live, agree);
     Monitor {
         seen: true,
-        keeps,
-        breaks,
+        keeps: cut(&monitor.keeps.words, live, agree),
+        breaks: cut(&monitor.breaks.words, live, agree),
         expected: monitor.expected,
     }
 }
@@ -85,6 +83,7 @@ pub fn moved<'a>(
 }
 
 // A restart: the image of both sets as one, split anew by where the rule holds. What is reached agrees already, so the split cuts no more away.
+#[tactic(auto, unfolding(crate::specs::Sides::restarted_by))]
 pub fn restarted<'a>(
     next: &[u64],
     leave: &'a [u64; 1024],
@@ -98,9 +97,7 @@ pub fn restarted<'a>(
     requires { count ≤ 64 }
     ensures { result ≡ restarted_by next.now leave.now enter.now holds.now count live.now monitor agree }
 {
-    let keeps = monitor.keeps;
-    let breaks = monitor.breaks;
-    let both = keeps.join(breaks);
+    let both = monitor.keeps.join(monitor.breaks);
     let reached = image(next, leave, enter, count, &both.words, live, agree);
     Monitor {
         seen: true,

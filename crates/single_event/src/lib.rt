@@ -114,13 +114,13 @@ fn came(
     ensures { result ≡ came_in label.now next.now (ways_of label.now rule) live.words monitor gap event }
 {
     let agree = labels::agreeing(label, event.see, event.val);
-    if monitor.seen {
-        if event.new {
-            return restarted(label, next, rule, live, monitor, gap, agree);
-        }
-        return moved(label, next, rule, live, monitor, gap, agree);
+    if !monitor.seen {
+        sides::kept(monitor, &live.words, agree)
+    } else if event.new {
+        restarted(label, next, rule, live, monitor, gap, agree)
+    } else {
+        moved(label, next, rule, live, monitor, gap, agree)
     }
-    sides::kept(monitor, &live.words, agree)
 }
 
 // An event with its number, behind which the next one is expected.
@@ -135,10 +135,11 @@ pub fn stepped(
     requires { Ready label.now rule × (number_of event.num monitor.expected < 2 ^ 32) }
     ensures { result ≡ taken_in label.now next.now (ways_of label.now rule) live.words monitor event }
 {
-    let num = event.num;
-    let number = number_of(num, monitor.expected);
+    let number = number_of(event.num, monitor.expected);
     let gap = missing(monitor.seen, monitor.expected, number);
-    let mut held = monitor;
-    held.expected = number + 1;
+    let held = Monitor {
+        expected: number + 1,
+        ..monitor
+    };
     came(label, next, rule, live, held, gap, event)
 }

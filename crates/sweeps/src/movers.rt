@@ -20,15 +20,11 @@ fn scan_moves(
     ensures { result ≡ movers_at next.now leave.now enter.now count set.now within v }
 {
     let mut rest = within;
-    let mut w: usize = 0;
-    'scan: while w < count {
+    'scan: for w in 0..count {
         let target = set[w] & both(enter, w, v);
-        let mut tried = words::only(target != 0, rest & both(leave, v, w));
-        w += 1;
-        while tried != 0 {
-            let s = words::lowest(tried);
-            tried = words::others(tried);
-            if words::entry(next, s) & target != 0 {
+        let tried = words::only(target != 0, rest & both(leave, v, w));
+        for s in words::members_in(tried) {
+            if next.get(s).copied().unwrap_or(0) & target != 0 {
                 rest = words::without(rest, words::single(s));
                 if rest == 0 {
                     break 'scan;
@@ -40,6 +36,7 @@ fn scan_moves(
 }
 
 // Most words of a late sweep are empty.
+#[tactic(auto, unfolding(crate::specs::Sweeps::movers_at))]
 fn movers_at(
     next: &[u64],
     leave: &[u64; 1024],
@@ -59,6 +56,7 @@ fn movers_at(
 }
 
 // The pairs of `within` with a move into `set`.
+#[tactic(auto, using(words::specs::Lists::words_none, words::specs::Lists::words_turn))]
 pub fn movers(
     next: &[u64],
     leave: &[u64; 1024],

@@ -5,27 +5,24 @@ ghost use Rattle.sweeps.specs.Sweeps.{without_set, reaching_of};
 
 use crate::movers::movers;
 use pairs::Pairs;
+use std::array;
 
 // The pairs that are in both sets.
 pub fn meet(a: &[u64; 64], b: &[u64; 64]) -> Pairs
     ensures { result.words ≡ meet_of a.now b.now }
 {
-    let mut words = [0u64; 64];
-    for v in 0..64 {
-        words[v] = words::entry(a, v) & words::entry(b, v);
+    Pairs {
+        words: array::from_fn(|v| a[v] & b[v]),
     }
-    Pairs { words }
 }
 
 // The pairs of a that are not in b.
 pub fn without(a: &[u64; 64], b: &[u64; 64]) -> Pairs
     ensures { result.words ≡ without_set a.now b.now }
 {
-    let mut words = [0u64; 64];
-    for v in 0..64 {
-        words[v] = words::without(words::entry(a, v), words::entry(b, v));
+    Pairs {
+        words: array::from_fn(|v| words::without(a[v], b[v])),
     }
-    Pairs { words }
 }
 
 // The pairs of `within` that reach the goal within it: sweeps, until nothing is added.

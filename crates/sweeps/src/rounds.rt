@@ -5,17 +5,16 @@ ghost use Rattle.sweeps.specs.Rounds.{every_of, settled_in, goal_of, round_of, s
 use crate::movers::movers;
 use crate::reach::reaching;
 use pairs::Pairs;
+use std::array;
 
 // The same word at each valuation.
 fn every(count: usize, word: u64) -> Pairs
     requires { count ≤ 64 }
     ensures { result.words ≡ every_of count word }
 {
-    let mut words = [0u64; 64];
-    for v in 0..count {
-        words[v] = word;
+    Pairs {
+        words: array::from_fn(|v| if v < count { word } else { 0 }),
     }
-    Pairs { words }
 }
 
 // The pairs that settle part k.
@@ -23,14 +22,13 @@ fn settled_pairs(count: usize, settled: &[u64; 384], k: usize) -> Pairs
     requires { (count ≤ 64) × (k < 6) }
     ensures { result.words ≡ settled_in count settled.now k }
 {
-    let mut words = [0u64; 64];
-    for v in 0..count {
-        words[v] = settled[v * 6 + k];
+    Pairs {
+        words: array::from_fn(|v| if v < count { settled[v * 6 + k] } else { 0 }),
     }
-    Pairs { words }
 }
 
 // Goal g: first the fairness sets, then the parts.
+#[tactic(auto, unfolding(crate::specs::Rounds::goal_of))]
 pub fn goal(fair: &[u64], count: usize, settled: &[u64; 384], g: usize) -> Pairs
     requires { (count ≤ 64) × (g < length fair.now + 6) }
     ensures { result.words ≡ goal_of fair.now count settled.now g }
@@ -55,13 +53,12 @@ fn round(
     ensures { result.words ≡ round_of fair.now next.now leave.now enter.now settled.now parts all.words }
 {
     let count = moves::valuations(parts);
-    let mut set = movers(next, leave, enter, count, &all.words, &all.words);
+    let start = movers(next, leave, enter, count, &all.words, &all.words);
     let goals = fair.len() + parts;
-    for g in 0..goals {
+    (0..goals).fold(start, |set, g| {
         let wanted = goal(fair, count, settled, g);
-        set = reaching(next, leave, enter, count, &set.words, &wanted.words);
-    }
-    set
+        reaching(next, leave, enter, count, &set.words, &wanted.words)
+    })
 }
 
 // Round after round, until nothing changes.
@@ -88,6 +85,7 @@ fn settle(
 }
 
 // From all pairs of the table, those from which every goal is met again and again.
+#[tactic(auto, unfolding(crate::specs::Rounds::lasting_of))]
 pub fn lasting<'a>(
     states: usize,
     fair: &[u64],

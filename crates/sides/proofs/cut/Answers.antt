@@ -1,15 +1,9 @@
--- `sides::cut`: the words passed are those of the definition, the others still 0. Assumes nothing.
-use Rattle.std.proofs.Common.{zero-le, le_antisymm, arith}
-use Rattle.words.specs.Lists.{words_none, words_more}
-use Rattle.sides.specs.Sides.{cut_of}
+-- `sides::cut`: each word is made by a call. Assumes nothing.
+use Rattle.std.proofs.Common.{rules}
+use Rattle.words.proofs.Made.{words_made}
+use Rattle.sides.specs.Sides.{cut_in, cut_of}
 use Rattle.sides.proofs.cut.Goals as goal
-
-pub loop-v-init : goal.loop-v-init
-loop-v-init c = (zero-le, words_none _)
-
-pub loop-v-preserved : goal.loop-v-preserved
-loop-v-preserved c = (omega arith, rw (← words_more) (cc))
 
 pub returns : goal.returns
 unfolding cut_of
-returns c = cc (le_antisymm c.loop-v.invariant.0 c.loop-v-test.false)
+returns c = words_made _ _ (cut_in c.args.held.now c.args.live.now c.args.agree) (λ k y q call. search rules) _ c.from_fn.ensures.items

@@ -1,6 +1,6 @@
 -- `halves::leaving`: the words of the turns passed are stored, the others still 0.
 use mathlib.Core.Path.{◌≡◌, refl, ◌∙◌}
-use Prim.Native.Nat.{◌-◌, zero-le}
+use Prim.Native.Nat.{zero-le}
 use native.Mathlib.Omega.{arith}
 use Rattle.leads.specs.Halves.{halves_after, leaving_of}
 use Rattle.leads.specs.Laws.{halves_turn}
@@ -8,13 +8,13 @@ use Rattle.leads.proofs.halves.leaving.Goals as goal
 
 pub loop-i-init : goal.loop-i-init
 unfolding halves_after
-loop-i-init c = (zero-le, refl)
+loop-i-init c = refl
 
 pub loop-i-preserved : goal.loop-i-preserved
-loop-i-preserved c = (omega arith, halves_turn _ _ _ _ _ _ c.loop-i.invariant.1 c.fitting_from.ensures c.fitting_from-in-loop-i.ensures)
+loop-i-preserved c = halves_turn _ _ _ _ _ _ c.loop-i.invariant c.fitting_from.ensures c.fitting_from-in-loop-i.ensures
 
 pub returns : goal.returns
 unfolding leaving_of
 returns c =
     let end : c.loop-i.i ≡ 512 = omega arith in
-    c.loop-i.invariant.1 ∙ rw (end, c.middle-mid.ensures.0)
+    c.loop-i.invariant ∙ rw (end, c.middle-mid.ensures.0)

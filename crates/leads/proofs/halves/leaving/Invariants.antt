@@ -5,7 +5,4 @@ use Rattle.leads.specs.Halves.{leaving_after}
 use Rattle.leads.proofs.halves.leaving.Given as goal
 
 abbrev pub invariant-loop-i : goal.invariant-loop-i
-invariant-loop-i l = (l.i ≤ 512) × (l.words ≡ leaving_after l.mid l.rest l.low l.high l.i)
-
-abbrev pub decreases-loop-i : goal.decreases-loop-i
-decreases-loop-i l = 512 - l.i
+invariant-loop-i l = l.words ≡ leaving_after l.mid l.rest l.low l.high l.i

@@ -8,7 +8,4 @@ use Rattle.leads.proofs.images.image.Given as goal
 
 abbrev pub invariant-loop-w : goal.invariant-loop-w
 invariant-loop-w l =
-    (l.w ≤ l.count) × (l.words ≡ words_below l.w (image_at l.next l.old (from_in l.leave) (to_in l.enter) l.count l.live l.agree))
-
-abbrev pub decreases-loop-w : goal.decreases-loop-w
-decreases-loop-w l = l.count - l.w
+    l.words ≡ words_below l.w (image_at l.next l.old (from_in l.leave) (to_in l.enter) l.count l.live l.agree)

@@ -1,15 +1,17 @@
--- `split`: the words passed are those of the definition, the others still 0. Assumes nothing.
-use Rattle.std.proofs.Common.{zero-le, le_antisymm, arith}
-use Rattle.words.specs.Lists.{words_none, words_more}
-use Rattle.sides.specs.Sides.{split_of}
+-- `split`: each word is made by a call. Assumes nothing.
+use Rattle.std.proofs.Common.{rules, true, false}
+use Rattle.words.proofs.Made.{words_made}
+use Rattle.sides.specs.Sides.{split_in, split_of}
 use Rattle.sides.proofs.opening.split.Goals as goal
 
-pub loop-v-init : goal.loop-v-init
-loop-v-init c = (zero-le, words_none _)
-
-pub loop-v-preserved : goal.loop-v-preserved
-loop-v-preserved c = (omega arith, rw (← words_more) (cc))
-
-pub returns : goal.returns
+pub returns-then-keeps : goal.returns-then-keeps
 unfolding split_of
-returns c = cc (le_antisymm c.loop-v.invariant.0 c.loop-v-test.false)
+returns-then-keeps c =
+    let a = c.args in
+    rw c.if-keeps.true (words_made _ _ (split_in a.held.now a.among a.holds.now true) (λ k y q call. search rules) _ c.from_fn-words.ensures.items)
+
+pub returns-else-keeps : goal.returns-else-keeps
+unfolding split_of
+returns-else-keeps c =
+    let a = c.args in
+    rw c.if-keeps.false (words_made _ _ (split_in a.held.now a.among a.holds.now false) (λ k y q call. search rules) _ c.from_fn-words-else-keeps.ensures.items)

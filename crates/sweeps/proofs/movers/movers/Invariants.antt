@@ -6,7 +6,4 @@ use Rattle.sweeps.proofs.movers.movers.Given as goal
 
 abbrev pub invariant-loop-v : goal.invariant-loop-v
 invariant-loop-v l =
-    (l.v ≤ l.count) × (l.words ≡ words_below l.v (λ u. movers_at l.next l.leave l.enter l.count l.set (get_or l.within u 0) u))
-
-abbrev pub decreases-loop-v : goal.decreases-loop-v
-decreases-loop-v l = l.count - l.v
+    l.words ≡ words_below l.v (λ u. movers_at l.next l.leave l.enter l.count l.set (get_or l.within u 0) u)

@@ -1,5 +1,5 @@
 -- `reach::reaching`: the set is on its way to the pairs that reach the goal; each sweep but the last adds one.
-use Rattle.std.proofs.Common.{◌-◌, sym, ◌∙◌, rules, get_or, Fits, w64}
+use Rattle.std.proofs.Common.{sym, ◌∙◌, rules, get_or, Fits, w64}
 use Rattle.pairs.specs.Sets.{length_join}
 use Rattle.sweeps.specs.Laws.{sweeping_start, sweeping_less, sweeping_more, sweeping_end}
 use Rattle.sweeps.proofs.reach.reaching.Goals as goal

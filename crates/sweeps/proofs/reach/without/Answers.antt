@@ -1,17 +1,10 @@
--- `reach::without`: the words passed are those of one set without the other, the others still 0.
-use Prim.Native.Nat.{◌-◌, zero-le}
-use native.Mathlib.Omega.{arith}
-use native.Mathlib.Nat.{le_antisymm}
-use Rattle.words.specs.Lists.{words_none, words_more}
+-- `reach::without`: each word is made by a call.
+use Rattle.std.proofs.Common.{rules, get_or}
+use Rattle.words.specs.Word.{without_of}
+use Rattle.words.proofs.Made.{words_made}
 use Rattle.sweeps.specs.Sweeps.{without_set}
 use Rattle.sweeps.proofs.reach.without.Goals as goal
 
-pub loop-v-init : goal.loop-v-init
-loop-v-init c = (zero-le, words_none _)
-
-pub loop-v-preserved : goal.loop-v-preserved
-loop-v-preserved c = (omega arith, rw (← words_more) (cc))
-
 pub returns : goal.returns
 unfolding without_set
-returns c = cc (le_antisymm c.loop-v.invariant.0 c.loop-v-test.false)
+returns c = words_made _ _ (λ v. without_of (get_or c.args.a.now v 0) (get_or c.args.b.now v 0)) (λ k y q call. search rules) _ c.from_fn.ensures.items

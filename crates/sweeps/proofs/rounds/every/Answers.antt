@@ -1,18 +1,14 @@
--- `rounds::every`: the words passed are the word, the others still 0.
-use mathlib.Core.Path.{refl}
-use Prim.Native.Nat.{◌-◌, zero-le}
-use native.Mathlib.Omega.{arith}
-use native.Mathlib.Nat.{le_antisymm}
-use Rattle.words.specs.Lists.{words_none, words_turn}
+-- `rounds::every`: each word is made by a call, those from `count` on are 0.
+use Rattle.std.proofs.Common.{rules, ◌∙◌, ltb}
+use borrow.Author.Tests.{tests}
+use Rattle.words.specs.Word.{only_of}
+use Rattle.words.proofs.Made.{words_made}
 use Rattle.sweeps.specs.Rounds.{every_of}
+use Rattle.sweeps.proofs.Made.{words_first}
 use Rattle.sweeps.proofs.rounds.every.Goals as goal
-
-pub loop-v-init : goal.loop-v-init
-loop-v-init c = (zero-le, words_none _)
-
-pub loop-v-preserved : goal.loop-v-preserved
-loop-v-preserved c = (omega arith, words_turn _ _ _ _ c.loop-v.invariant.1 refl)
 
 pub returns : goal.returns
 unfolding every_of
-returns c = cc (le_antisymm c.loop-v.invariant.0 c.loop-v-test.false)
+returns c =
+    let a = c.args in
+    words_made _ _ (λ v. only_of (ltb v a.count) a.word) (λ k y q call. search (rules, tests)) _ c.from_fn.ensures.items ∙ words_first a.count (λ v. a.word)

@@ -1,24 +1,18 @@
--- `rounds::round`: the set is what is left after the goals passed.
-use Rattle.std.proofs.Common.{refl, ◌∙◌, ◌-◌, zero-le, arith, le_antisymm}
-use Rattle.sweeps.specs.Rounds.{goals_after, round_of}
-use Rattle.sweeps.specs.Turns.{goals_turn}
+-- `rounds::round`: the fold is what is left after the goals.
+use Rattle.std.proofs.Common.{rules, arith, ap, refl, ◌∙◌, ◌+◌, length}
+use Rattle.std.proofs.lemmas.Iterator.{YieldsList-from_range}
+use Rattle.std.proofs.lemmas.Iterator.Consumers.{fold_from_yields_List}
+use Rattle.sweeps.specs.Rounds.{round_of}
+use Rattle.sweeps.proofs.Made.{after_goal, goals_by_fold}
 use Rattle.sweeps.proofs.rounds.round.Goals as goal
-
-pub loop-g-init : goal.loop-g-init
-unfolding goals_after
-loop-g-init c = (zero-le, refl)
-
-pub loop-g-preserved : goal.loop-g-preserved
-loop-g-preserved c =
-    let a = c.before.before.before.args in (
-      omega (arith, c.loop-g-test.true),
-      goals_turn a.fair.now a.next.now a.leave.now a.enter.now a.settled.now a.parts
-          c.valuations-count.result c.movers-set.result.words c.loop-g.g _ _ _
-          c.loop-g.invariant.1 c.goal-wanted.ensures c.reaching-set.ensures,
-    )
 
 pub returns : goal.returns
 unfolding round_of
 returns c =
-    let end = le_antisymm c.loop-g.invariant.0 c.loop-g-test.false in
-    c.loop-g.invariant.1 ∙ rw (end, c.movers-set.ensures, c.valuations-count.ensures.0)
+    let a = c.args in
+    let n = length a.fair.now + a.parts in
+    let folded = fold_from_yields_List _ (after_goal a.fair.now a.next.now a.leave.now a.enter.now a.settled.now c.valuations-count.result)
+    c.movers-start.result c.fold.result c.fold.ensures.ran (YieldsList-from_range 0 n n refl (omega arith)) (λ f x r q k. search rules) in
+    ap (λ (p : _). p.words) folded
+    ∙ goals_by_fold a.fair.now a.next.now a.leave.now a.enter.now a.settled.now c.valuations-count.result c.movers-start.result n
+    ∙ rw (c.movers-start.ensures, c.valuations-count.ensures.0)

@@ -1,18 +1,16 @@
--- `rounds::settled_pairs`: the words passed are those of part k, the others still 0.
-use Prim.Native.Nat.{◌-◌, zero-le}
-use native.Mathlib.Omega.{arith}
-use native.Mathlib.Nat.{le_antisymm}
-use Rattle.words.specs.Lists.{words_none, words_turn}
+-- `rounds::settled_pairs`: each word is made by a call, those from `count` on are 0.
+use Rattle.std.proofs.Common.{rules, ◌∙◌, ltb}
+use borrow.Author.Tests.{tests}
+use Rattle.words.specs.Word.{only_of}
+use Rattle.words.proofs.Made.{words_made}
+use Rattle.moves.specs.Fit.{entry}
 use Rattle.sweeps.specs.Rounds.{settled_in}
-use Rattle.std.proofs.lemmas.Grind.{common_steps}
+use Rattle.sweeps.proofs.Made.{words_first}
 use Rattle.sweeps.proofs.rounds.settled_pairs.Goals as goal
-
-pub loop-v-init : goal.loop-v-init
-loop-v-init c = (zero-le, words_none _)
-
-pub loop-v-preserved : goal.loop-v-preserved
-loop-v-preserved c = grind (arith, common_steps, words_turn)
 
 pub returns : goal.returns
 unfolding settled_in
-returns c = cc (le_antisymm c.loop-v.invariant.0 c.loop-v-test.false)
+returns c =
+    let a = c.args in
+    words_made _ _ (λ v. only_of (ltb v a.count) (entry a.settled.now v a.k)) (λ k y q call. search (rules, tests)) _ c.from_fn.ensures.items
+    ∙ words_first a.count (λ v. entry a.settled.now v a.k)
