@@ -57,8 +57,7 @@ fn downhill<'a>(
         (nodes_of words.now) (rank_of ranks.now) x result }
 {
     let ways = nearest::onward(next, leave, enter, count, words, x);
-    let limit = ranks[x];
-    nearest::lower(&ways.words, ranks, limit)
+    nearest::lower(&ways.words, ranks, ranks[x])
 }
 
 // Where a stretch of the walk ends, and the place behind its last byte.
