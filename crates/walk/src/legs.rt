@@ -31,6 +31,7 @@ pub fn common_pair(some: &[u64; 64], others: &[u64; 64]) -> usize
 }
 
 // The set of x alone.
+#[tactic(auto, unfolding(crate::specs::Ways::alone_of))]
 pub fn alone(x: usize) -> Pairs
     requires { x < 4096 }
     ensures { result.words ≡ alone_of x }
