@@ -3,9 +3,8 @@ ghost use Rattle.io.specs.Counts.{IsPrefixLen};
 ghost use Rattle.opened.specs.Lent.{Lent};
 
 use answers::{Outcome, Refusal};
-use plant::{Plant, Table, TableRead};
+use plant::Table;
 use program::given::{read_plant, read_rule};
-use rule_text::RuleRead;
 use std::rt::Files;
 use syntax::Rule;
 use transcript::texts;
@@ -24,11 +23,9 @@ pub fn read_given<R: Files>(rt: &R, folder: &[u8], text: &mut [u8]) -> Given
     ensures log { IsPrefixLen result.len text.new }
 {
     let read = read_plant(rt, folder);
-    let outcome = read.outcome;
-    let table = read.table;
-    match outcome {
-        Outcome::Refused(refusal) => none_of(refusal, table, Rule::empty(), text),
-        Outcome::Accepted => with_table(rt, folder, table, text),
+    match read.outcome {
+        Outcome::Refused(refusal) => none_of(refusal, read.table, Rule::empty(), text),
+        Outcome::Accepted => with_table(rt, folder, read.table, text),
     }
 }
 
@@ -39,24 +36,17 @@ fn with_table<R: Files>(rt: &R, folder: &[u8], table: Table, text: &mut [u8]) ->
     ensures log { IsPrefixLen result.len text.new }
 {
     let plant = table.plant;
-    let just = plant.just;
-    let states = plant.states;
-    let fair = table.fair;
-    let label = table.label;
-    let next = table.next;
     let read = read_rule(
         rt,
         folder,
         plant,
-        &fair[..just],
-        &label[..states],
-        &next[..states],
+        &table.fair[..plant.just],
+        &table.label[..plant.states],
+        &table.next[..plant.states],
     );
-    let outcome = read.outcome;
-    let rule = read.rule;
-    match outcome {
-        Outcome::Refused(refusal) => none_of(refusal, table, rule, text),
-        Outcome::Accepted => with_rule(rt, folder, table, rule, text),
+    match read.outcome {
+        Outcome::Refused(refusal) => none_of(refusal, table, read.rule, text),
+        Outcome::Accepted => with_rule(rt, folder, table, read.rule, text),
     }
 }
 
@@ -67,14 +57,11 @@ fn with_rule<R: Files>(rt: &R, folder: &[u8], table: Table, rule: Rule, text: &m
     ensures log { IsPrefixLen result.len text.new }
 {
     let file = files::read_in(rt, folder, b"log.txt", text);
-    let len = file.len;
-    let plant = table.plant;
-    let outcome = texts::check_log(file.ok, &text[..len], plant.props);
     Given {
-        outcome,
+        outcome: texts::check_log(file.ok, &text[..file.len], table.plant.props),
         table,
         rule,
-        len,
+        len: file.len,
     }
 }
 

@@ -29,27 +29,19 @@ pub fn run<R: Env + Files + Print>(rt: &R) {
 fn run_in<R: Files + Print>(rt: &R, folder: &[u8]) {
     let mut text = [0u8; File::LOG];
     let given = given::read_given(rt, folder, &mut text);
-    let outcome = given.outcome;
     let table = given.table;
-    let rule = given.rule;
-    let len = given.len;
     let plant = table.plant;
-    let just = plant.just;
-    let states = plant.states;
-    let fair = table.fair;
-    let label = table.label;
-    let next = table.next;
-    match outcome {
+    match given.outcome {
         Outcome::Refused(refusal) => refuse(rt, refusal),
         Outcome::Accepted => show_end(
             rt,
             b"",
             plant,
-            &fair[..just],
-            &label[..states],
-            &next[..states],
-            rule,
-            &text[..len],
+            &table.fair[..plant.just],
+            &table.label[..plant.states],
+            &table.next[..plant.states],
+            given.rule,
+            &text[..given.len],
         ),
     }
 }
@@ -66,13 +58,11 @@ pub fn show_end<P: Print>(
     text: &[u8],
 ) {
     let end = play::play(plant, fair, label, next, rule, text);
-    let outcome = end.outcome;
-    let monitor = end.monitor;
-    match outcome {
+    match end.outcome {
         Outcome::Refused(refusal) => refuse(to, refusal),
         Outcome::Accepted => {
-            show_run(to, name, plant, fair, label, next, rule, monitor, true);
-            show_run(to, name, plant, fair, label, next, rule, monitor, false);
+            show_run(to, name, plant, fair, label, next, rule, end.monitor, true);
+            show_run(to, name, plant, fair, label, next, rule, end.monitor, false);
         }
     }
 }
@@ -100,9 +90,8 @@ fn show_run<P: Print>(
 fn write_run<P: Print>(to: &P, keeps: bool, states: &[u8], lengths: Lengths)
     requires { (lengths.stem ≤ 4095) × (lengths.turn ≤ 45056) × (49152 ≤ length states.now) }
 {
-    let stem = lengths.stem;
-    let all = stem + lengths.turn;
+    let all = lengths.stem + lengths.turn;
     let mut line = [0u8; Line::RUN];
-    let len = report::run_line(&mut line, keeps, &states[..all], stem);
+    let len = report::run_line(&mut line, keeps, &states[..all], lengths.stem);
     put(to, &line[..len]);
 }

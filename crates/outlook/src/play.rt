@@ -26,14 +26,12 @@ pub fn play(
     text: &[u8],
 ) -> End {
     let prepared = live::prepare(plant, fair, label, next, rule);
-    let outcome = prepared.outcome;
-    let live = prepared.live;
-    match outcome {
+    match prepared.outcome {
         Outcome::Refused(refusal) => End {
             outcome: Outcome::Refused(refusal),
             monitor: Monitor::NONE,
         },
-        Outcome::Accepted => from_start(plant, fair, label, next, rule, live, text),
+        Outcome::Accepted => from_start(plant, fair, label, next, rule, prepared.live, text),
     }
 }
 
@@ -50,7 +48,6 @@ fn from_start(
     requires { ((prepared_of plant fair.now label.now next.now rule).outcome ≡ Accepted) × (live ≡ (prepared_of plant fair.now label.now next.now rule).live) }
 {
     let opened = monitor::open(plant, fair, label, next, rule, live);
-    let monitor = opened.monitor;
     let mut verdicts = [0u8; 1];
     let mut lefts = [0u8; 1];
     let mut numbers = [0u64; 1];
@@ -61,18 +58,15 @@ fn from_start(
         next,
         rule,
         live,
-        monitor,
+        opened.monitor,
         text,
         &mut verdicts,
         &mut lefts,
         &mut numbers,
     );
-    let outcome = went.outcome;
-    let end = went.monitor;
-    let done = went.done;
-    let offset = done * event_log::line_bytes(text, plant.props);
+    let offset = went.done * event_log::line_bytes(text, plant.props);
     End {
-        outcome: transcript::at_line(outcome, offset),
-        monitor: end,
+        outcome: transcript::at_line(went.outcome, offset),
+        monitor: went.monitor,
     }
 }

@@ -9,49 +9,64 @@ use files::File;
 use pairs::Pairs;
 use plant::Plant;
 use program::said::{put, put_decimal};
-use rule_text::RuleRead;
 use sides::Monitor;
 use std::rt::Files;
 use syntax::Rule;
 use walk::Lengths;
 use witness::Witnessed;
 
+#[tactic(auto, using(opened::specs::Lent::lent))]
 fn main(rt: HostRuntime) {
     let mut text = [0u8; File::PLANT];
     let file = files::read_file(&rt, b"plant.txt", &mut text);
-    let len = file.len;
-    let read = plant::read_table(&text[..len]);
+    let read = plant::read_table(&text[..file.len]);
     let table = read.table;
     let plant = table.plant;
-    let just = plant.just;
-    let states = plant.states;
-    let fair = table.fair;
-    let label = table.label;
-    let next = table.next;
-    with_table(&rt, plant, &fair[..just], &label[..states], &next[..states]);
+    with_table(
+        &rt,
+        plant,
+        &table.fair[..plant.just],
+        &table.label[..plant.states],
+        &table.next[..plant.states],
+    );
 }
 
 fn with_table<R: Files + Print>(rt: &R, plant: Plant, fair: &[u64], label: &[u16], next: &[u64]) {
     let mut text = [0u8; File::RULE];
     let file = files::read_file(rt, b"rule.txt", &mut text);
-    let len = file.len;
-    let read: RuleRead = rule::read_rule(plant, fair, label, next, &text[..len]);
-    let rule = read.rule;
+    let rule = rule::read_rule(plant, fair, label, next, &text[..file.len]).rule;
     let mut turns = [0u8; 47];
     files::read_file(rt, b"turns.txt", &mut turns);
-    prepare_often(rt, number(&turns, 9), plant, fair, label, next, rule);
-    with_rule(rt, number(&turns, 18), plant, fair, label, next, rule);
-    witness_often(rt, number(&turns, 30), plant, fair, label, next, rule, true);
-    witness_often(
+    often(
+        rt,
+        number(&turns, 9),
+        || digest(live::prepare(plant, fair, label, next, rule).live),
+    );
+    let live = live::prepare(plant, fair, label, next, rule).live;
+    with_rule(rt, number(&turns, 18), plant, fair, label, next, rule, live);
+    let monitor = monitor::open(plant, fair, label, next, rule, live).monitor;
+    often(
+        rt,
+        number(&turns, 30),
+        || ask(plant, fair, label, next, rule, monitor, true),
+    );
+    often(
         rt,
         number(&turns, 43),
-        plant,
-        fair,
-        label,
-        next,
-        rule,
-        false,
+        || ask(plant, fair, label, next, rule, monitor, false),
     );
+}
+
+// A number made so often: all of them together are written.
+fn often<P: Print, F: Fn() -> u64>(to: &P, turns: usize, made: F)
+    requires { F.IsAlwaysCallable made }
+{
+    let mut total: u64 = 0;
+    for _ in 0..turns {
+        total = total.wrapping_add(made());
+    }
+    put_decimal(to, total);
+    put(to, b"\n");
 }
 
 // turns.txt is `prepares=DDD logs=DDD keeping=DDD breaking=DDD` and LF: three digits from `at` on.
@@ -64,24 +79,7 @@ fn number(text: &[u8; 47], at: usize) -> usize
 fn digit(character: u8) -> usize
     ensures { result < 10 }
 {
-    (character % 16 % 10) as usize
-}
-
-fn prepare_often<P: Print>(
-    to: &P,
-    turns: usize,
-    plant: Plant,
-    fair: &[u64],
-    label: &[u16],
-    next: &[u64],
-    rule: Rule,
-) {
-    let mut total: u64 = 0;
-    for n in 0..turns {
-        let prepared = live::prepare(plant, fair, label, next, rule);
-        total = total.wrapping_add(digest(prepared.live));
-    }
-    show_number(to, total);
+    usize::from(character % 16 % 10)
 }
 
 fn with_rule<R: Files + Print>(
@@ -92,42 +90,15 @@ fn with_rule<R: Files + Print>(
     label: &[u16],
     next: &[u64],
     rule: Rule,
+    live: Pairs,
 ) {
     let mut text = [0u8; File::LOG];
     let file = files::read_file(rt, b"log.txt", &mut text);
-    let len = file.len;
-    let prepared = live::prepare(plant, fair, label, next, rule);
-    log_often(
-        rt,
-        turns,
-        plant,
-        fair,
-        label,
-        next,
-        rule,
-        prepared.live,
-        &text[..len],
-    );
-}
-
-fn log_often<P: Print>(
-    to: &P,
-    turns: usize,
-    plant: Plant,
-    fair: &[u64],
-    label: &[u16],
-    next: &[u64],
-    rule: Rule,
-    live: Pairs,
-    text: &[u8],
-) {
-    let mut total: u64 = 0;
-    for n in 0..turns {
-        let monitor = run_log(plant, fair, label, next, rule, live, text);
-        total = total.wrapping_add(digest(monitor.keeps));
-        total = total.wrapping_add(digest(monitor.breaks));
-    }
-    show_number(to, total);
+    let log = &text[..file.len];
+    often(rt, turns, || {
+        let monitor = run_log(plant, fair, label, next, rule, live, log);
+        digest(monitor.keeps).wrapping_add(digest(monitor.breaks))
+    });
 }
 
 // Where the log ends.
@@ -140,46 +111,23 @@ fn run_log(
     live: Pairs,
     text: &[u8],
 ) -> Monitor {
-    let opened = monitor::open(plant, fair, label, next, rule, live);
-    let mut now = opened.monitor;
-    for n in 0..text.len() / event_log::line_bytes(text, plant.props) {
+    let start = monitor::open(plant, fair, label, next, rule, live).monitor;
+    let lines = text.len() / event_log::line_bytes(text, plant.props);
+    (0..lines).fold(start, |now, n| {
         let event = event_log::event_at(text, n, plant.props);
-        let watched = monitor::step(plant, fair, label, next, rule, live, now, event);
-        now = watched.monitor;
-    }
-    now
+        monitor::step(plant, fair, label, next, rule, live, now, event).monitor
+    })
 }
 
 // A number for a set of pairs: each word counts twice as much as the one behind it.
 fn digest(set: Pairs) -> u64 {
-    let mut total: u64 = 0;
-    for v in 0..64 {
-        total = total.wrapping_add(total);
-        total = total.wrapping_add(set.words[v]);
-    }
-    total
+    set.words
+        .iter()
+        .fold(0, |total, word| twice_and(total, *word))
 }
 
-// Witnesses of the asked kind, for the monitor as it opens.
-fn witness_often<P: Print>(
-    to: &P,
-    turns: usize,
-    plant: Plant,
-    fair: &[u64],
-    label: &[u16],
-    next: &[u64],
-    rule: Rule,
-    keeps: bool,
-) {
-    let prepared = live::prepare(plant, fair, label, next, rule);
-    let opened = monitor::open(plant, fair, label, next, rule, prepared.live);
-    let monitor = opened.monitor;
-    let mut total: u64 = 0;
-    for n in 0..turns {
-        let run = ask(plant, fair, label, next, rule, monitor, keeps);
-        total = total.wrapping_add(run);
-    }
-    show_number(to, total);
+fn twice_and(total: u64, word: u64) -> u64 {
+    total.wrapping_add(total).wrapping_add(word)
 }
 
 // A number for a witness: 0 where there is none.
@@ -193,8 +141,7 @@ fn ask(
     keeps: bool,
 ) -> u64 {
     let mut buffer = [0u8; Lengths::ROOM];
-    let witnessed = witness::witness(plant, fair, label, next, rule, monitor, keeps, &mut buffer);
-    match witnessed {
+    match witness::witness(plant, fair, label, next, rule, monitor, keeps, &mut buffer) {
         Witnessed::Refused(_) => 0,
         Witnessed::Run(lengths) => digest_states(lengths.stem, lengths.turn, &buffer),
     }
@@ -202,23 +149,8 @@ fn ask(
 
 // As many bytes as the stem and the loop have states; the stem's length counts too.
 fn digest_states(stem: usize, turn: usize, bytes: &[u8; Lengths::ROOM]) -> u64 {
-    let written = stem.wrapping_add(turn);
-    let mut total = stem as u64;
-    for i in 0..Lengths::ROOM {
-        if i == written {
-            break;
-        }
-        total = total.wrapping_add(total);
-        total = total.wrapping_add(wide(bytes[i]));
-    }
-    total
-}
-
-fn wide(byte: u8) -> u64 {
-    byte as u64
-}
-
-fn show_number<P: Print>(to: &P, n: u64) {
-    put_decimal(to, n);
-    put(to, b"\n");
+    bytes.iter().take(stem.wrapping_add(turn)).fold(
+        stem as u64,
+        |total, byte| twice_and(total, u64::from(*byte)),
+    )
 }

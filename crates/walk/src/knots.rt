@@ -13,16 +13,14 @@ use pairs::Pairs;
 use sweeps::reach::{meet, without};
 
 // For each state those that lead to it.
+#[tactic(auto, using(nearest::proofs::MemberTurns::turn_low))]
 fn before(next: &[u64]) -> Pairs
     ensures { Before next.now result.words }
 {
     let mut words = [0u64; 64];
     for s in 0..64 {
-        let mut rest = words::entry(next, s);
-        while rest != 0 {
-            let t = words::lowest(rest);
+        for t in words::members_in(words::entry(next, s)) {
             words[t] |= words::single(s);
-            rest = words::others(rest);
         }
     }
     Pairs { words }

@@ -31,6 +31,7 @@ pub fn common_pair(some: &[u64; 64], others: &[u64; 64]) -> usize
 }
 
 // The set of x alone.
+#[tactic(auto, unfolding(crate::specs::Ways::alone_of))]
 pub fn alone(x: usize) -> Pairs
     requires { x < 4096 }
     ensures { result.words ≡ alone_of x }
@@ -57,8 +58,7 @@ fn downhill<'a>(
         (nodes_of words.now) (rank_of ranks.now) x result }
 {
     let ways = nearest::onward(next, leave, enter, count, words, x);
-    let limit = ranks[x];
-    nearest::lower(&ways.words, ranks, limit)
+    nearest::lower(&ways.words, ranks, ranks[x])
 }
 
 // Where a stretch of the walk ends, and the place behind its last byte.

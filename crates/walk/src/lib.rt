@@ -69,8 +69,7 @@ fn write_far(
         buffer.old buffer.new result.stem result.turn }
 {
     let knot = find_knot(next, leave, enter, count, live, x);
-    let first = write_leg(next, leave, enter, count, knot.back, x, buffer, 0);
-    let stem = first.at;
+    let stem = write_leg(next, leave, enter, count, knot.back, x, buffer, 0).at;
     let turn = write_turn(
         next,
         leave,

@@ -15,39 +15,35 @@ use crate::legs::write_leg;
 use leads::halves::both;
 use nearest::Near;
 use pairs::Pairs;
+use std::array;
 
 // The states that the plant lets stay.
 fn stays(next: &[u64]) -> u64
     ensures { result ≡ stays_of next.now }
 {
-    let mut found: u64 = 0;
-    for s in 0..64 {
-        found |= words::entry(next, s) & words::single(s);
-    }
-    found
+    (0..64).fold(
+        0,
+        |found, s| found | (words::entry(next, s) & words::single(s)),
+    )
 }
 
 // The states of every fairness set.
+#[tactic(auto, using(crate::proofs::Folded::fair_by_fold))]
 fn fair_states(fair: &[u64]) -> u64
     ensures { result ≡ fair_of fair.now }
 {
-    let mut met: u64 = 0xffff_ffff_ffff_ffff;
-    for k in 0..fair.len() {
-        met &= fair[k];
-    }
-    met
+    fair.iter().fold(u64::MAX, |met, set| met & set)
 }
 
 // The states at which v settles every part.
+#[tactic(auto, using(crate::proofs::Folded::settles_by_fold))]
 fn settles(settled: &[u64; 384], parts: usize, v: usize) -> u64
     requires { (parts ≤ 6) × (v < 64) }
     ensures { result ≡ settles_of settled.now parts v }
 {
-    let mut met: u64 = 0xffff_ffff_ffff_ffff;
-    for k in 0..parts {
-        met &= settled[v * 6 + k];
-    }
-    met
+    settled[v * 6..v * 6 + parts]
+        .iter()
+        .fold(u64::MAX, |met, set| met & set)
 }
 
 // A word at a time: what stays, moves from v to v, and meets all.
@@ -65,11 +61,14 @@ fn rests(
         (debts_to fair.now count settled.now (length fair.now + parts)) (nodes_of result.words) }
 {
     let kept = stays(next) & fair_states(fair);
-    let mut words = [0u64; 64];
-    for v in 0..count {
-        words[v] = kept & both(leave, v, v) & both(enter, v, v) & settles(settled, parts, v);
+    Pairs {
+        words: array::from_fn(|v| {
+            words::only(
+                v < count,
+                kept & both(leave, v, v) & both(enter, v, v) & settles(settled, parts, v),
+            )
+        }),
     }
-    Pairs { words }
 }
 
 // The live pairs that lead to one of these, and the ways there.
@@ -118,7 +117,6 @@ pub fn write_rest(
         (nodes_of near.words) (rank_of near.ranks) x buffer.old buffer.new result.stem result.turn }
 {
     let way = write_leg(next, leave, enter, count, near, x, buffer, 0);
-    let stem = way.at;
-    let turn = write_stay(way.end, &mut buffer[stem..]);
-    Lengths { stem, turn }
+    let turn = write_stay(way.end, &mut buffer[way.at..]);
+    Lengths { stem: way.at, turn }
 }

@@ -72,7 +72,6 @@ pub fn write_turn(
     );
     let ways = nearest::onward(next, leave, enter, count, &knot.back.words, legs.end);
     let y = some_pair(&ways.words);
-    let at = legs.at;
-    out[at] = (legs.end % 64) as u8;
-    write_leg(next, leave, enter, count, knot.back, y, out, at + 1).at
+    out[legs.at] = (legs.end % 64) as u8;
+    write_leg(next, leave, enter, count, knot.back, y, out, legs.at + 1).at
 }

@@ -3,8 +3,6 @@
 
 use answers::Outcome;
 use plant::Plant;
-use rule_text::RuleRead;
-use syntax::Rule;
 
 // Plant W (01, The plant table), whose fairness sets and moves an example may change.
 fn show<P: Print>(to: &P, name: &[u8], fair: &[u64], next: &[u64], text: &[u8], events: &[u8]) {
@@ -15,11 +13,9 @@ fn show<P: Print>(to: &P, name: &[u8], fair: &[u64], next: &[u64], text: &[u8], 
         just: fair.len(),
     };
     let label = [0u16, 1, 2];
-    let read: RuleRead = rule::read_rule(plant, fair, &label, next, text);
-    let rule: Rule = read.rule;
-    let outcome: Outcome = read.outcome;
-    if let Outcome::Accepted = outcome {
-        outlook::show_end(to, name, plant, fair, &label, next, rule, events);
+    let read = rule::read_rule(plant, fair, &label, next, text);
+    if let Outcome::Accepted = read.outcome {
+        outlook::show_end(to, name, plant, fair, &label, next, read.rule, events);
     }
 }
 

@@ -4,9 +4,6 @@ use Rattle.sweeps.specs.Sweeps.{movers_at}
 use Rattle.nearest.specs.Places.{Filling}
 use Rattle.nearest.proofs.joining.Given as goal
 
-abbrev pub invariant-loop-rest : goal.invariant-loop-rest
-invariant-loop-rest l =
-    (l.rest < 2 ^ 64) × (l.rest < 2 ^ l.count) × Filling l.count (λ u. movers_at l.next l.leave l.enter l.count l.front (get_or l.others u 0) u) l.rest l.some l.words
-
-abbrev pub decreases-loop-rest : goal.decreases-loop-rest
-decreases-loop-rest l = l.rest
+abbrev pub invariant-loop-v : goal.invariant-loop-v
+invariant-loop-v l =
+    (l.v-iterator.0 < 2 ^ 64) × (l.v-iterator.0 < 2 ^ l.count) × Filling l.count (λ u. movers_at l.next l.leave l.enter l.count l.front (get_or l.others u 0) u) l.v-iterator.0 l.some l.words

@@ -5,8 +5,5 @@ use Rattle.sweeps.specs.Sweeps.{movers_at}
 use Rattle.nearest.specs.Joining.{joins_by}
 use Rattle.nearest.proofs.joining_at.Given as goal
 
-abbrev pub invariant-loop-rest : goal.invariant-loop-rest
-invariant-loop-rest l = (l.rest < 2 ^ 64) × (l.found < 2 ^ 64) × (bit_or l.found (post_of (joins_by l.next l.leave l.enter l.count l.front l.others l.v) l.rest) ≡ movers_at l.next l.leave l.enter l.count l.front l.others l.v)
-
-abbrev pub decreases-loop-rest : goal.decreases-loop-rest
-decreases-loop-rest l = l.rest
+abbrev pub invariant-loop-w : goal.invariant-loop-w
+invariant-loop-w l = (l.w-iterator.0 < 2 ^ 64) × (l.found < 2 ^ 64) × (bit_or l.found (post_of (joins_by l.next l.leave l.enter l.count l.front l.others l.v) l.w-iterator.0) ≡ movers_at l.next l.leave l.enter l.count l.front l.others l.v)

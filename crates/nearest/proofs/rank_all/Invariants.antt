@@ -3,8 +3,5 @@ use Rattle.std.proofs.Common.{◌^◌, ◌<◌, ◌≡◌, length}
 use Rattle.nearest.specs.Ranking.{Marked, passed}
 use Rattle.nearest.proofs.rank_all.Given as goal
 
-abbrev pub invariant-loop-rest : goal.invariant-loop-rest
-invariant-loop-rest l = (l.rest < 2 ^ 64) × (length l.ranks ≡ 4096) × Marked (passed l.rest l.joining) l.rank l.initial.ranks l.ranks
-
-abbrev pub decreases-loop-rest : goal.decreases-loop-rest
-decreases-loop-rest l = l.rest
+abbrev pub invariant-loop-v : goal.invariant-loop-v
+invariant-loop-v l = (l.v-iterator.0 < 2 ^ 64) × (length l.ranks ≡ 4096) × Marked (passed l.v-iterator.0 l.joining) l.rank l.initial.ranks l.ranks

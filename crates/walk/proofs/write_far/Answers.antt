@@ -8,8 +8,8 @@ use Rattle.walk.specs.Written.{states, written_count, written_over}
 use Rattle.words.specs.Over.{over_lent}
 use Rattle.walk.proofs.write_far.Goals as goal
 
-pub write_leg-first-requires : goal.write_leg-first-requires
-write_leg-first-requires c =
+pub write_leg-stem-requires : goal.write_leg-stem-requires
+write_leg-stem-requires c =
     let p = c.requires in
     let small = nodes_below c.args.live.now p.count_bound.3 in
     let h = c.find_knot-knot.ensures in
@@ -24,7 +24,7 @@ pub write_turn-turn-requires : goal.write_turn-turn-requires
 write_turn-turn-requires c =
     let p = c.requires in
     let h = c.find_knot-knot.ensures in
-    let e = c.write_leg-first.ensures in
+    let e = c.write_leg-stem.ensures in
     record {
       count_bound = (p.count_bound.0, p.count_bound.1, p.count_bound.2, p.count_bound.3, simp (length-take, length-drop) (omega (arith, near_low h.near _ (knotted_in h), e.short, e.written.size, p.count_bound.4)));
       fair = p.fair;
@@ -34,6 +34,6 @@ write_turn-turn-requires c =
 pub returns : goal.returns
 returns c =
     let h = c.find_knot-knot.ensures in
-    let e = c.write_leg-first.ensures in
+    let e = c.write_leg-stem.ensures in
     let t = c.write_turn-turn.ensures in
     walked_far h e t (over_lent _ (states e.written.nodes) _ _ _ _ (written_count e.written) (written_over e.written) t.bytes)

@@ -1,17 +1,12 @@
--- `rests::stays`: `found` is the union of what was found at the states passed.
-use Rattle.std.proofs.Common.{refl, ap₂, zero-le, arith, le_antisymm, bit_and}
-use Rattle.words.specs.Below.{union_below}
-use Rattle.words.specs.Unions.{union_turn}
-use Rattle.walk.specs.Rests.{stays_of}
+-- `rests::stays`: the fold over the states is the union of what is found at each.
+use Rattle.std.proofs.Common.{rules, tests, refl, ◌∙◌, bit_and, bit_or, get_or, ◌^◌}
+use Rattle.std.proofs.lemmas.Iterator.{YieldsList-from_range}
+use Rattle.std.proofs.lemmas.Iterator.Consumers.{fold_from_yields_List}
+use Rattle.walk.proofs.Folded.{stays_by_fold}
 use Rattle.walk.proofs.rests.stays.Goals as goal
 
-pub loop-s-init : goal.loop-s-init
-unfolding union_below
-loop-s-init c = (zero-le, refl)
-
-pub loop-s-preserved : goal.loop-s-preserved
-loop-s-preserved c = (omega arith, union_turn _ _ _ _ c.loop-s.invariant.1 (ap₂ bit_and c.entry.ensures c.single.ensures))
-
 pub returns : goal.returns
-unfolding stays_of
-returns c = cc (le_antisymm c.loop-s.invariant.0 c.loop-s-test.false)
+returns c =
+    let next = c.args.next.now in
+    fold_from_yields_List _ (λ r s. bit_or r (bit_and (get_or next s 0) (2 ^ s))) 0 _ c.fold.ensures.ran
+    (YieldsList-from_range 0 64 64 refl refl) (λ a x b q k. search (rules, tests)) ∙ stays_by_fold next
