@@ -4,3 +4,4 @@ pub mod Tests
 pub mod First
 pub mod Right
 pub mod Checked
+pub mod Turns
