@@ -10,7 +10,6 @@ ghost use Rattle.around.specs.Fill.{handed_from, filled_from, stacks_after, arou
 
 use node_value::{carry_at, guess, pushed, value_at};
 use syntax::{Op, Rule};
-use words::wide;
 
 // What a node hands on at position `from`, where its last position is handed `end`.
 #[tactic(auto, using(crate::specs::Turns::handed_last, crate::specs::Turns::handed_back))]
@@ -19,10 +18,8 @@ fn handed(op: Op, labels: &[u16], words: &[u64; 4096], end: bool, from: usize) -
     ensures { result ≡ handed_from op labels.now words.now end (length labels.now - from) from }
 {
     let mut ahead = end;
-    let mut i = labels.len();
-    while from < i {
-        i -= 1;
-        ahead = carry_at(op, wide(labels[i]), words[i], ahead);
+    for i in (from..labels.len()).rev() {
+        ahead = carry_at(op, u64::from(labels[i]), words[i], ahead);
     }
     ahead
 }
@@ -34,36 +31,26 @@ fn fill(op: Op, labels: &[u16], end: bool, words: &mut [u64; 4096])
     ensures { words.new ≡ filled_from op labels.now words.old end (length labels.now) 0 }
 {
     let mut ahead = end;
-    let mut i = labels.len();
-    while 0 < i {
-        i -= 1;
-        let label = wide(labels[i]);
+    for i in (0..labels.len()).rev() {
+        let label = u64::from(labels[i]);
         let stack = words[i];
         words[i] = pushed(stack, op, value_at(op, label, stack, ahead));
         ahead = carry_at(op, label, stack, ahead);
     }
 }
 
-#[derive(Clone, Copy)]
-struct Stacks {
-    words: [u64; 4096],
-}
-
 // Node by node.
 #[tactic(auto, unfolding(crate::specs::Fill::stacks_after))]
-fn stacks_of(rule: Rule, labels: &[u16], stem: usize) -> Stacks
+fn stacks_of(rule: Rule, labels: &[u16], stem: usize) -> [u64; 4096]
     requires { (rule.len ≤ 32) × (stem < length labels.now) × (length labels.now ≤ 4096) }
-    ensures { result.words ≡ stacks_after rule.nodes labels.now stem rule.len }
+    ensures { result ≡ stacks_after rule.nodes labels.now stem rule.len }
 {
-    let len = rule.len;
-    let mut words = [0u64; 4096];
-    for at in 0..len {
-        let node = rule.nodes[at];
-        let op = node.op;
-        let first = handed(op, labels, &words, guess(op), stem);
-        fill(op, labels, first, &mut words);
+    let mut words = [0; 4096];
+    for node in &rule.nodes[..rule.len] {
+        let first = handed(node.op, labels, &words, guess(node.op), stem);
+        fill(node.op, labels, first, &mut words);
     }
-    Stacks { words }
+    words
 }
 
 // Where position p stands among n positions, of which the first `stem` are the stem.
@@ -73,9 +60,10 @@ pub fn place_of(stem: usize, n: usize, p: usize) -> usize
     ensures { (result ≡ place stem n p) × (result < n) }
 {
     if p < stem {
-        return p;
+        p
+    } else {
+        stem + (p - stem) % (n - stem)
     }
-    stem + (p - stem) % (n - stem)
 }
 
 // Whether the rule holds at position p of the endless word that these labels go through, the stem once and then the loop for ever.
@@ -85,7 +73,7 @@ pub fn holds_around(rule: Rule, labels: &[u16], stem: usize, p: usize) -> bool
     ensures is { result ≡ around_of rule labels.now stem p }
     ensures means { Means rule labels.now stem p result }
 {
-    let found = stacks_of(rule, labels, stem);
+    let stacks = stacks_of(rule, labels, stem);
     let at = place_of(stem, labels.len(), p);
-    words::has(found.words[at], 0)
+    words::has(stacks[at], 0)
 }

@@ -10,26 +10,20 @@ use syntax::Rule;
 pub fn label_of(label: &[u16], state: u8) -> u16
     ensures { result ≡ get_or label.now state 0 }
 {
-    let at = state as usize;
-    if at < label.len() { label[at] } else { 0 }
-}
-
-#[derive(Clone, Copy)]
-pub struct Along {
-    pub labels: [u16; 4096],
+    label.get(usize::from(state)).copied().unwrap_or(0)
 }
 
 // The labels along a run, and 0 beyond it.
 #[tactic(auto, using(words::specs::Lists::filled_none, words::specs::Lists::filled_turn), unfolding(crate::specs::Along::labels_in))]
-pub fn labels_along(label: &[u16], run: &[u8]) -> Along
+pub fn labels_along(label: &[u16], run: &[u8]) -> [u16; 4096]
     requires { length run.now ≤ 4096 }
-    ensures { result.labels ≡ labels_in label.now run.now }
+    ensures { result ≡ labels_in label.now run.now }
 {
-    let mut labels = [0u16; 4096];
-    for i in 0..run.len() {
-        labels[i] = label_of(label, run[i]);
+    let mut labels = [0; 4096];
+    for (i, &state) in run.iter().enumerate() {
+        labels[i] = label_of(label, state);
     }
-    Along { labels }
+    labels
 }
 
 // Whether the rule holds at position p of the run.
@@ -39,8 +33,6 @@ pub fn holds_on_run(rule: Rule, label: &[u16], run: &[u8], stem: usize, p: usize
     ensures is { result ≡ around_of rule (labels_of label.now run.now) stem p }
     ensures means { MeansOnRun rule label.now run.now stem p result }
 {
-    let n = run.len();
-    let found = labels_along(label, run);
-    let labels = found.labels;
-    holds_around(rule, &labels[..n], stem, p)
+    let labels = labels_along(label, run);
+    holds_around(rule, &labels[..run.len()], stem, p)
 }

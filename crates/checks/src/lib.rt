@@ -26,12 +26,13 @@ pub fn check_input(plant: Plant, fair: &[u64], label: &[u16], next: &[u64], rule
 }
 
 // Whether the pairs are of the table's states and the rule's valuations.
+#[tactic(auto, using(words::specs::Unions::union_more), unfolding(words::specs::Below::union_below))]
 pub fn pairs_fit(words: &[u64; 64], states: u64, count: usize) -> bool
     ensures { result ≡ pairs_fit words.now states count }
 {
-    let mut beyond: u64 = 0;
-    for v in 0..64 {
-        beyond |= words::without(words::entry(words, v), words::only(v < count, states));
+    let mut beyond = 0;
+    for (v, &word) in words.iter().enumerate() {
+        beyond |= words::without(word, words::only(v < count, states));
     }
     beyond == 0
 }

@@ -1,7 +1,6 @@
 -- What a day ends with, by the edition and by where its log ends.
 use Prim.Native.Nat.{ℕ}
-use mathlib.Core.Path.{◌≡◌, refl, sym, ap, ◌∙◌}
-use mathlib.Core.Bool.{true, false}
+use mathlib.Core.Path.{◌≡◌, refl, ap, ◌∙◌}
 use mathlib.Core.List.{List}
 use borrow.Author.Tests.{ne_eqb}
 use Rattle.answers.specs.declared.Kind.TheVariants.{ClosingEdition}
@@ -15,31 +14,12 @@ use Rattle.event_log.specs.Read.{event_at, whole_lines}
 use Rattle.sides.specs.declared.Monitor.{Monitor}
 use Rattle.sides.specs.Held.{model_of, lamp_in}
 use Rattle.closing.specs.declared.ClosingVerdict.{ClosingVerdict}
-use Rattle.closing.specs.declared.ClosingVerdict.TheVariants.{Inconclusive, PresumablyTrue, PresumablyFalse}
 use Rattle.closing.specs.declared.Closed.{Closed}
 use Rattle.closing.specs.declared.Closed.TheVariants.{At, Refused}
-use Rattle.last_stretch.specs.declared.Found.{Found}
-use Rattle.last_stretch.specs.Stretch.{found_of}
 use Rattle.controller.specs.declared.LogAnswer.{LogAnswer}
 use Rattle.controller.specs.declared.LogEnd.{LogEnd}
 use Rattle.controller.specs.Whole.{end_of}
-use Rattle.closing.specs.Closing.{of_verdict, presumed_by, presumed_of, second_of, closed_at, unless_stopped, closed_end, closed_of}
-
--- ---- what is presumed
-
-module _ (rule : Rule) (event : ℕ → Event) (n : ℕ) {r : Found} (e : r ≡ found_of rule event n) where
-  so : {x : ClosingVerdict} → presumed_by r ≡ x → x ≡ presumed_of rule event n
-  unfolding presumed_of
-  so is = sym is ∙ ap presumed_by e
-
-  pub says_true : r.ready ≡ true → r.holds ≡ true → PresumablyTrue ≡ presumed_of rule event n
-  says_true a b = so (rw (a, b) refl)
-
-  pub says_false : r.ready ≡ true → r.holds ≡ false → PresumablyFalse ≡ presumed_of rule event n
-  says_false a b = so (rw (a, b) refl)
-
-  pub says_nothing : r.ready ≡ false → Inconclusive ≡ presumed_of rule event n
-  says_nothing a = so (rw a refl)
+use Rattle.closing.specs.Closing.{of_verdict, presumed_of, second_of, closed_at, unless_stopped, closed_end, closed_of}
 
 -- ---- the edition
 

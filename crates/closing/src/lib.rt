@@ -10,12 +10,11 @@ use advance::lamp;
 use answers::{Kind, Refusal, Verdict};
 use controller::{LogAnswer, Stop, to_end};
 use last_stretch::look_back;
-use plant::Table;
 use sides::Monitor;
 use syntax::Rule;
 
 // What a day ends with: one of the four verdicts, or what is presumed where it is inconclusive.
-#[derive(Clone, Copy)]
+#[derive(Clone, Copy, Debug, PartialEq, Eq)]
 pub enum ClosingVerdict {
     Inconclusive,
     True,
@@ -71,13 +70,10 @@ pub fn close_log(table: &[u8], rule: &[u8], log: &[u8], edition: u64) -> Closed
     ensures { result ≡ closed_of table.now rule.now log.now edition }
 {
     let end = to_end(table, rule, log);
-    let answer = end.answer;
-    let table: Table = end.table;
-    let plant = table.plant;
-    match answer {
+    match end.answer {
         LogAnswer::Refused(refusal) => Closed::Refused(refusal),
         LogAnswer::Stopped(stop) => Closed::Stopped(stop),
-        LogAnswer::Watched(_) => at_end(end.rule, log, plant.props, end.last, edition),
+        LogAnswer::Watched(_) => at_end(end.rule, log, end.table.plant.props, end.last, edition),
     }
 }
 
@@ -86,8 +82,7 @@ fn at_end(rule: Rule, log: &[u8], props: usize, last: Monitor, edition: u64) -> 
     requires { rule.len ≤ 32 }
     ensures { result ≡ closed_at rule (event_at (width_of props) log.now) (whole_lines (width_of props) log.now) last edition }
 {
-    let shown = lamp(last);
-    let verdict = shown.verdict;
+    let verdict = lamp(last).verdict;
     if edition == 1 {
         return Closed::At(ClosingVerdict::of(verdict));
     }
@@ -104,22 +99,21 @@ fn second(rule: Rule, log: &[u8], props: usize, verdict: Verdict) -> ClosingVerd
 {
     match verdict {
         Verdict::Inconclusive => presumed(rule, log, props),
-        Verdict::True => ClosingVerdict::True,
-        Verdict::False => ClosingVerdict::False,
-        Verdict::OutOfModel => ClosingVerdict::OutOfModel,
+        decided => ClosingVerdict::of(decided),
     }
 }
 
+#[tactic(auto, unfolding(crate::specs::Closing::presumed_of))]
 fn presumed(rule: Rule, log: &[u8], props: usize) -> ClosingVerdict
     requires { rule.len ≤ 32 }
     ensures { result ≡ presumed_of rule (event_at (width_of props) log.now) (whole_lines (width_of props) log.now) }
 {
     let found = look_back(rule, log, props);
-    if found.ready {
-        if found.holds {
-            return ClosingVerdict::PresumablyTrue;
-        }
-        return ClosingVerdict::PresumablyFalse;
+    if !found.ready {
+        ClosingVerdict::Inconclusive
+    } else if found.holds {
+        ClosingVerdict::PresumablyTrue
+    } else {
+        ClosingVerdict::PresumablyFalse
     }
-    ClosingVerdict::Inconclusive
 }

@@ -4,7 +4,7 @@ use native.Mathlib.Omega.{arith}
 use mathlib.Core.Path.{◌≡◌, refl, sym, ap, ap₂, subst, ◌∙◌}
 use mathlib.Core.Bool.{Bool, true, false, ◌&&◌, not, cond}
 use lib.Dec.{ltb}
-use borrow.Author.Tests.{ltb-true, ltb-false}
+use borrow.Author.Tests.{ltb-false, lt-ltb, le-ltb}
 use Rattle.meaning.specs.Bit.{bit}
 use Rattle.words.specs.Truth.{and_says}
 use Rattle.syntax.specs.declared.Rule.{Rule}
@@ -59,15 +59,27 @@ module _ (rule : Rule) (used : ℕ) (event : ℕ → Event) (n : ℕ) where
           let b : begins event line ≡ begins event n = subst (λ (b : Bool). cond b (begins event line) line ≡ begins event n) e g.begun in
           z ∙ sym (ap (begins event) z) ∙ b
 
-pub found : (rule : Rule) (event : ℕ → Event) (n : ℕ) {used : ℕ} → used ≡ props_of rule → {back : Back} {line : ℕ} → Looked rule used event n back line → (back.going && ltb 0 line) ≡ false
-    → {h : Bool} → h ≡ bit back.stack 0 → record { ready = ltb 0 n && back.all; holds = h } ≡ found_of rule event n
-unfolding found_of
-found rule event n {used} all {back} g test {h} is =
-    rw is (ap (found_in n) (ends rule used event n g test ∙ ap (λ (u : ℕ). back_from rule u event (n - begins event n) (begins event n)) all))
+  -- so it does where the loop is left at the restart, and where no line is left
+  pub ends_restart : {back : Back} {line : ℕ} → Looked back line → back.going ≡ false → back ≡ back_from rule used event (n - begins event n) (begins event n)
+  ends_restart {back} {line} g e = ends g (rw e refl)
 
--- while it goes on there is a line
-pub going_on : (b : Bool) (line : ℕ) → (b && ltb 0 line) ≡ true → 0 < line
-going_on b line test = ltb-true 0 line ((and_says b (ltb 0 line)).0 test).1
+  pub ends_first : {back : Back} {line : ℕ} → Looked back line → line ≤ 0 → back ≡ back_from rule used event (n - begins event n) (begins event n)
+  ends_first {back} {line} g z = ends g (none back.going)
+    where
+      none : (b : Bool) → (b && ltb 0 line) ≡ false
+      none true = le-ltb 0 line z
+      none false = refl
+
+-- while it goes on, and there is a line
+pub going_on : {b : Bool} {line : ℕ} → b ≡ true → 0 < line → (b && ltb 0 line) ≡ true
+going_on {b} {line} e l = rw (e, lt-ltb 0 line l)
+
+pub found : (rule : Rule) (event : ℕ → Event) (n : ℕ) {used : ℕ} → used ≡ props_of rule
+    → {back : Back} → back ≡ back_from rule used event (n - begins event n) (begins event n)
+    → {r h : Bool} → r ≡ (ltb 0 n && back.all) → h ≡ bit back.stack 0 → record { ready = r; holds = h } ≡ found_of rule event n
+unfolding found_of
+found rule event n {used} all {back} is {r} {h} ready holds =
+    rw (ready, holds) (ap (found_in n) (is ∙ ap (λ (u : ℕ). back_from rule u event (n - begins event n) (begins event n)) all))
 
 -- however the lines were counted
 pub found_counted : (rule : Rule) (event : ℕ → Event) {n k : ℕ} → n ≡ k → {r : Found} → r ≡ found_of rule event n → r ≡ found_of rule event k

@@ -5,16 +5,15 @@
 ghost use Rattle.std.specs.Prelude.{◌≡◌, ◌≤◌};
 ghost use Rattle.text.specs.Number.{width_of};
 ghost use Rattle.event_log.specs.Read.{event_at, whole_lines};
-ghost use Rattle.last_stretch.specs.Stretch.{joins_at, joins, behind_last, further_of, found_of};
+ghost use Rattle.last_stretch.specs.Stretch.{joins, behind_last, further_of, found_of};
 
 use event_log::{Event, Num};
 use syntax::Rule;
 use within::seen::{props_of, sees_all};
 use within::{guesses, turn};
-use words::wide;
 
 // What the lines from one on tell.
-#[derive(Clone, Copy)]
+#[derive(Clone, Copy, Debug, PartialEq, Eq)]
 pub struct Back {
     // the values of the rule's nodes at that line, and what each hands on to the line before
     pub stack: u64,
@@ -28,7 +27,7 @@ pub struct Back {
 }
 
 // Whether anything may be presumed of the stretch, and whether the rule holds within it.
-#[derive(Clone, Copy)]
+#[derive(Clone, Copy, Debug, PartialEq, Eq)]
 pub struct Found {
     pub ready: bool,
     pub holds: bool,
@@ -38,18 +37,9 @@ pub struct Found {
 fn follows(earlier: Num, later: Num) -> bool
     ensures { result ≡ joins earlier later }
 {
-    match earlier {
-        Num::Expected => true,
-        Num::Given(number) => is_next(number, later),
-    }
-}
-
-fn is_next(number: u32, later: Num) -> bool
-    ensures { result ≡ joins_at number later }
-{
-    match later {
-        Num::Expected => true,
-        Num::Given(behind) => (behind as u64) <= (number as u64) + 1,
+    match (earlier, later) {
+        (Num::Given(number), Num::Given(behind)) => u64::from(behind) <= u64::from(number) + 1,
+        _ => true,
     }
 }
 
@@ -58,10 +48,9 @@ fn behind_last(rule: Rule) -> Back
     requires { rule.len ≤ 32 }
     ensures { result ≡ behind_last rule }
 {
-    let ahead = guesses(rule);
     Back {
         stack: 0,
-        ahead,
+        ahead: guesses(rule),
         num: Num::Expected,
         all: true,
         going: true,
@@ -69,20 +58,17 @@ fn behind_last(rule: Rule) -> Back
 }
 
 // One line further back.
+#[tactic(auto, using(std::proofs::lemmas::Grind::common_steps), unfolding(crate::specs::Stretch::further_of))]
 fn further(rule: Rule, props: u64, back: Back, event: Event) -> Back
     requires { rule.len ≤ 32 }
     ensures { result ≡ further_of rule props back event }
 {
-    let num = event.num;
-    let later = back.num;
-    let made = turn(rule, wide(event.val), back.ahead);
-    let seen = sees_all(props, event.see);
-    let joined = follows(num, later);
+    let made = turn(rule, u64::from(event.val), back.ahead);
     Back {
         stack: made.stack,
         ahead: made.ahead,
-        num,
-        all: back.all & (seen & joined),
+        num: event.num,
+        all: back.all && sees_all(props, event.see) && follows(event.num, back.num),
         going: !event.new,
     }
 }
@@ -95,14 +81,14 @@ pub fn look_back(rule: Rule, log: &[u8], props: usize) -> Found
     let used = props_of(rule);
     let lines = log.len() / event_log::line_bytes(log, props);
     let mut back = behind_last(rule);
-    let mut line = lines;
-    while back.going & (0 < line) {
-        line -= 1;
-        let event = event_log::event_at(log, line, props);
-        back = further(rule, used, back, event);
+    for line in (0..lines).rev() {
+        back = further(rule, used, back, event_log::event_at(log, line, props));
+        if !back.going {
+            break;
+        }
     }
     Found {
-        ready: (0 < lines) & back.all,
+        ready: lines > 0 && back.all,
         holds: words::has(back.stack, 0),
     }
 }

@@ -14,10 +14,7 @@ pub use words::wide;
 fn has_prop(label: u64, p: u8) -> bool
     ensures { result ≡ bit label p }
 {
-    if p < 64 {
-        return words::has(label, p as usize);
-    }
-    false
+    p < 64 && words::has(label, usize::from(p))
 }
 
 // A node's value: x is the value of the first of two operands, y of the last, and `ahead` what the next position hands on.
@@ -30,13 +27,13 @@ fn value(op: Op, label: u64, x: bool, y: bool, ahead: bool) -> bool
         Op::Prop(p) => has_prop(label, p),
         Op::Not => !y,
         Op::Next => ahead,
-        Op::Finally => y | ahead,
-        Op::Globally => y & ahead,
-        Op::Until => y | (x & ahead),
-        Op::Release => y & (x | ahead),
-        Op::And => x & y,
-        Op::Or => x | y,
-        Op::Implies => !x | y,
+        Op::Finally => y || ahead,
+        Op::Globally => y && ahead,
+        Op::Until => y || (x && ahead),
+        Op::Release => y && (x || ahead),
+        Op::And => x && y,
+        Op::Or => x || y,
+        Op::Implies => !x || y,
     }
 }
 
@@ -44,20 +41,7 @@ fn value(op: Op, label: u64, x: bool, y: bool, ahead: bool) -> bool
 pub fn guess(op: Op) -> bool
     ensures { result ≡ guess_of op }
 {
-    match op {
-        Op::False => false,
-        Op::True => false,
-        Op::Prop(_) => false,
-        Op::Not => false,
-        Op::Next => false,
-        Op::Finally => false,
-        Op::Globally => true,
-        Op::Until => false,
-        Op::Release => true,
-        Op::And => false,
-        Op::Or => false,
-        Op::Implies => false,
-    }
+    matches!(op, Op::Globally | Op::Release)
 }
 
 // The stack with a node's operands taken off and its value put on.
@@ -69,6 +53,7 @@ pub fn pushed(stack: u64, op: Op, value: bool) -> u64
 }
 
 // The value of a node whose operands are on the stack.
+#[tactic(auto, unfolding(crate::specs::Unfold::value_at))]
 pub fn value_at(op: Op, label: u64, stack: u64, ahead: bool) -> bool
     ensures { result ≡ value_at op label stack ahead }
 {
@@ -80,9 +65,8 @@ pub fn value_at(op: Op, label: u64, stack: u64, ahead: bool) -> bool
 pub fn carry_at(op: Op, label: u64, stack: u64, ahead: bool) -> bool
     ensures { result ≡ carry_at op label stack ahead }
 {
-    let own = value_at(op, label, stack, ahead);
     if is_next(op) {
         return words::has(stack, 0);
     }
-    own
+    value_at(op, label, stack, ahead)
 }

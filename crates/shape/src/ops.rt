@@ -8,29 +8,12 @@ use syntax::{Op, Rule};
 pub fn op_at(rule: Rule, i: usize) -> Op
     ensures { result ≡ op_at rule.nodes i }
 {
-    if i < 32 {
-        let node = rule.nodes[i];
-        return node.op;
-    }
-    Op::False
+    rule.nodes.get(i).map_or(Op::False, |node| node.op)
 }
 
 // Whether it is an X.
 pub fn is_next(op: Op) -> bool
     ensures { result ≡ is_step op }
 {
-    match op {
-        Op::False => false,
-        Op::True => false,
-        Op::Prop(_) => false,
-        Op::Not => false,
-        Op::Next => true,
-        Op::Finally => false,
-        Op::Globally => false,
-        Op::Until => false,
-        Op::Release => false,
-        Op::And => false,
-        Op::Or => false,
-        Op::Implies => false,
-    }
+    op == Op::Next
 }

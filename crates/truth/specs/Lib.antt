@@ -2,6 +2,7 @@ pub mod Columns
 pub mod Nodes
 pub mod Turns
 pub mod Whole
+pub mod Asked
 pub mod Rows
 pub mod Ready
 pub mod Tables

@@ -7,8 +7,7 @@ use Rattle.syntax.specs.declared.Node.{Node}
 use Rattle.words.specs.Below.{list_below}
 use Rattle.shape.specs.Ops.{op_at, is_step}
 use Rattle.truth.specs.Nodes.{own_of, word_at}
-use Rattle.truth.specs.declared.rows.Asked.{Asked}
-use Rattle.truth.specs.declared.rows.Asked.TheVariants.{Low, High, Operand, Settled}
+use Rattle.truth.specs.Asked.{Asked, Low, High, Operand, Settled}
 
 abbrev pub low_of : Op → ℕ → ℕ → ℕ → ℕ
 low_of False x y own = 0

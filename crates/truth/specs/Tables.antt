@@ -4,8 +4,7 @@ use Rattle.syntax.specs.declared.Rule.{Rule}
 use Rattle.shape.specs.Shape.{begins_of, numbers_of, kinds_of, nexts_in, parts_in, order_in}
 use Rattle.truth.specs.Nodes.{nodes_after, holds_of}
 use Rattle.truth.specs.Rows.{rows_from}
-use Rattle.truth.specs.declared.rows.Asked.{Asked}
-use Rattle.truth.specs.declared.rows.Asked.TheVariants.{Low, High, Operand, Settled}
+use Rattle.truth.specs.Asked.{Asked, Low, High, Operand, Settled}
 use Rattle.shape.specs.declared.Shape.{Shape}
 use Rattle.truth.specs.declared.tables.MoveTables.{MoveTables}
 use Rattle.truth.specs.declared.tables.RestartTables.{RestartTables}

@@ -9,7 +9,7 @@ use Rattle.truth.specs.Columns.{column_filled, columns_filled, columns_all, colu
 use Rattle.shape.specs.Ops.{op_at}
 use Rattle.truth.specs.Nodes.{leaf_of, made_of, own_of, word_at, node_filled, nodes_after}
 use Rattle.truth.specs.Rows.{told_of, part_at, row_at, rows_from}
-use Rattle.truth.specs.declared.rows.Asked.{Asked}
+use Rattle.truth.specs.Asked.{Asked}
 
 -- ---- the words behind node `at`
 

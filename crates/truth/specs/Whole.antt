@@ -6,7 +6,7 @@ use Rattle.shape.specs.declared.Shape.{Shape}
 use Rattle.shape.specs.Shape.{Shaped}
 use Rattle.truth.specs.declared.tables.MoveTables.{MoveTables}
 use Rattle.truth.specs.declared.tables.Tables.{Tables}
-use Rattle.truth.specs.declared.rows.Asked.TheVariants.{Low, High, Operand, Settled}
+use Rattle.truth.specs.Asked.{Low, High, Operand, Settled}
 use Rattle.truth.specs.Nodes.{holds_of}
 use Rattle.truth.specs.Tables.{words_in, words_by, rows_in, rows_by, move_tables_from, move_tables_in, restart_tables_in, tables_from, tables_of}
 

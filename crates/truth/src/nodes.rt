@@ -2,19 +2,21 @@
 ghost use Rattle.std.specs.Prelude.{◌≡◌, ◌*◌, ◌≤◌, ◌<◌, length};
 ghost use Rattle.truth.specs.Nodes.{named_of, leaf_of, own_of, made_of, word_at, node_filled, nodes_after, holds_of};
 
-use shape::entry;
+use std::array;
 use syntax::{Op, Rule};
 
 // The states whose label has the proposition p. One without a name no state has.
+#[tactic(auto, unfolding(crate::specs::Nodes::named_of))]
 fn having(label: &[u16], p: u8) -> u64
     requires { length label.now ≤ 64 }
     ensures { result ≡ named_of label.now p }
 {
-    let number = p as usize;
+    let number = usize::from(p);
     if number < Rule::NAMES {
-        return labels::having(label, number);
+        labels::having(label, number)
+    } else {
+        0
     }
-    0
 }
 
 // The states where a node holds by their labels alone, if it is a proposition. (Of the propositions that a rule does not name nothing is worked
@@ -25,17 +27,7 @@ fn leaf(op: Op, label: &[u16]) -> u64
 {
     match op {
         Op::Prop(p) => having(label, p),
-        Op::False => 0,
-        Op::True => 0,
-        Op::Not => 0,
-        Op::Next => 0,
-        Op::Finally => 0,
-        Op::Globally => 0,
-        Op::Until => 0,
-        Op::Release => 0,
-        Op::And => 0,
-        Op::Or => 0,
-        Op::Implies => 0,
+        _ => 0,
     }
 }
 
@@ -43,10 +35,11 @@ fn leaf(op: Op, label: &[u16]) -> u64
 pub fn own(v: usize, k: usize) -> u64
     ensures { result ≡ own_of v k }
 {
-    if k < 6 {
-        return words::only(words::has(v as u64, k), 0xffff_ffff_ffff_ffff);
+    if k < 6 && words::has(v as u64, k) {
+        u64::MAX
+    } else {
+        0
     }
-    0
 }
 
 // A node's word from those of its operands, x the first of two and y the last; `leaf` is a proposition's, `own` a part's.
@@ -55,14 +48,10 @@ fn made(op: Op, leaf: u64, x: u64, y: u64, own: u64) -> u64
 {
     match op {
         Op::False => 0,
-        Op::True => 0xffff_ffff_ffff_ffff,
+        Op::True => u64::MAX,
         Op::Prop(_) => leaf,
         Op::Not => !y,
-        Op::Next => own,
-        Op::Finally => own,
-        Op::Globally => own,
-        Op::Until => own,
-        Op::Release => own,
+        Op::Next | Op::Finally | Op::Globally | Op::Until | Op::Release => own,
         Op::And => x & y,
         Op::Or => x | y,
         Op::Implies => !x | y,
@@ -74,15 +63,7 @@ pub fn word_at(words: &[u64; 2112], place: usize, v: usize) -> u64
     requires { v < 64 }
     ensures { result ≡ word_at words.now place v }
 {
-    if place < 33 {
-        return words::entry(words, place * 64 + v);
-    }
-    0
-}
-
-#[derive(Clone, Copy)]
-pub struct Nodes {
-    pub words: [u64; 2112],
+    if place < 33 { words[place * 64 + v] } else { 0 }
 }
 
 // The words behind node `at`, which come from words before them: `first` is where the first of two operands ends, `number` which part
@@ -98,39 +79,26 @@ fn fill_node(op: Op, leaf: u64, first: usize, number: usize, at: usize, words: &
 }
 
 // Node by node.
-pub fn node_words(rule: Rule, label: &[u16], begins: &[usize; 33], numbers: &[usize; 32]) -> Nodes
+pub fn node_words(
+    rule: Rule,
+    label: &[u16],
+    begins: &[usize; 33],
+    numbers: &[usize; 32],
+) -> [u64; 2112]
     requires { (rule.len ≤ 32) × (length label.now ≤ 64) }
-    ensures { result.words ≡ nodes_after rule.nodes label.now begins.now numbers.now (rule.len * 64) }
+    ensures { result ≡ nodes_after rule.nodes label.now begins.now numbers.now (rule.len * 64) }
 {
-    let len = rule.len;
-    let mut words = [0u64; 2112];
-    for at in 0..len {
-        let node = rule.nodes[at];
-        let op = node.op;
-        fill_node(
-            op,
-            leaf(op, label),
-            entry(begins, at),
-            entry(numbers, at),
-            at,
-            &mut words,
-        );
+    let mut words = [0; 2112];
+    for (at, node) in rule.nodes[..rule.len].iter().enumerate() {
+        let leaf = leaf(node.op, label);
+        fill_node(node.op, leaf, begins[at], numbers[at], at, &mut words);
     }
-    Nodes { words }
-}
-
-#[derive(Clone, Copy)]
-pub struct Holds {
-    pub words: [u64; 64],
+    words
 }
 
 // The states where the rule itself holds, at each valuation.
-pub fn rule_words(words: &[u64; 2112], len: usize) -> Holds
-    ensures { result.words ≡ holds_of words.now len }
+pub fn rule_words(words: &[u64; 2112], len: usize) -> [u64; 64]
+    ensures { result ≡ holds_of words.now len }
 {
-    let mut found = [0u64; 64];
-    for v in 0..64 {
-        found[v] = word_at(words, len, v);
-    }
-    Holds { words: found }
+    array::from_fn(|v| word_at(words, len, v))
 }

@@ -23,7 +23,7 @@ use Rattle.model.specs.Tables.{is_next}
 use Rattle.shape.specs.Ops.{op_at, is_part, is_step}
 use Rattle.shape.specs.Shape.{begins_of, kinds_of, order_in}
 use Rattle.truth.specs.Nodes.{own_of, word_at}
-use Rattle.truth.specs.declared.rows.Asked.{Asked}
+use Rattle.truth.specs.Asked.{Asked}
 use Rattle.truth.specs.Rows.{told_of, part_at, row_at, rows_from}
 use Rattle.truth.specs.Tables.{words_in, rows_in}
 use Rattle.truth_laws.specs.Words.{own_small}

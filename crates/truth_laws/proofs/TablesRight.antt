@@ -22,8 +22,7 @@ use Rattle.shape.specs.Ops.{op_at, is_step}
 use Rattle.truth.specs.Ready.{Ready}
 use Rattle.shape.specs.Shape.{kinds_of, nexts_in, parts_in, order_in}
 use Rattle.truth.specs.Nodes.{word_at, holds_of}
-use Rattle.truth.specs.declared.rows.Asked.{Asked}
-use Rattle.truth.specs.declared.rows.Asked.TheVariants.{Low, High, Operand, Settled}
+use Rattle.truth.specs.Asked.{Asked, Low, High, Operand, Settled}
 use Rattle.truth.specs.Tables.{words_in, rows_in, tables_of}
 use Rattle.truth.specs.RightTables.{RightTables}
 use Rattle.truth_laws.specs.Tree.{tree_of, nodes_in, nodes_tree, count_tree}

@@ -17,8 +17,7 @@ use Rattle.model.specs.Values.{Tells, wholly, bit_wholly}
 use Rattle.model.specs.Tables.{unfolds, operand_of}
 use Rattle.model.specs.Unfold.{next_row, next_operand, until_low, until_high, release_low, release_high}
 use Rattle.shape.specs.Ops.{is_step}
-use Rattle.truth.specs.declared.rows.Asked.{Asked}
-use Rattle.truth.specs.declared.rows.Asked.TheVariants.{Low, High, Operand, Settled}
+use Rattle.truth.specs.Asked.{Asked, Low, High, Operand, Settled}
 use Rattle.truth.specs.Rows.{low_of, high_of, settled_of, told_of}
 
 -- what is asked of a part

@@ -7,9 +7,11 @@ ghost use Rattle.ways.specs.Ways.{ways_of, move_ways_from, move_ways_in, restart
 
 use leads::halves::{entering, leaving};
 use syntax::Rule;
-use truth::tables::MoveTables;
+use truth::tables::{
+    MoveTables, RestartTables, Tables, move_tables_of, restart_tables_of, tables_of,
+};
 
-#[derive(Clone, Copy)]
+#[derive(Clone, Copy, Debug, PartialEq, Eq)]
 pub struct Ways {
     // how many temporal parts the rule has, and how many valuations they have
     pub parts: usize,
@@ -24,7 +26,7 @@ pub struct Ways {
 }
 
 // Those of them that a move goes by.
-#[derive(Clone, Copy)]
+#[derive(Clone, Copy, Debug, PartialEq, Eq)]
 pub struct MoveWays {
     pub count: usize,
     pub leave: [u64; 1024],
@@ -32,7 +34,7 @@ pub struct MoveWays {
 }
 
 // And those that a restart goes by.
-#[derive(Clone, Copy)]
+#[derive(Clone, Copy, Debug, PartialEq, Eq)]
 pub struct RestartWays {
     pub moves: MoveWays,
     pub holds: [u64; 64],
@@ -45,17 +47,20 @@ pub fn ways_of(label: &[u16], rule: Rule) -> Ways
     requires { Ready label.now rule }
     ensures { result ≡ ways_of label.now rule }
 {
-    let tables = truth::tables::tables_of(label, rule);
-    let leaves = leaving(tables.parts, &tables.low, &tables.high);
-    let enters = entering(tables.parts, tables.nexts, &tables.operand);
-    let count = moves::valuations(tables.parts);
-    let leave = leaves.words;
-    let enter = enters.words;
-    let settled = tables.settled;
-    let holds = tables.holds;
+    let Tables {
+        parts,
+        nexts,
+        low,
+        high,
+        operand,
+        settled,
+        holds,
+    } = tables_of(label, rule);
+    let leave = leaving(parts, &low, &high).words;
+    let enter = entering(parts, nexts, &operand).words;
     Ways {
-        parts: tables.parts,
-        count,
+        parts,
+        count: moves::valuations(parts),
         leave,
         enter,
         settled,
@@ -65,17 +70,14 @@ pub fn ways_of(label: &[u16], rule: Rule) -> Ways
 
 // From the tables of a rule's parts.
 #[tactic(auto, unfolding(crate::specs::Ways::move_ways_from))]
-fn move_ways_from(tables: MoveTables) -> MoveWays
-    requires { tables.parts ≤ 6 }
-    ensures { result ≡ move_ways_from tables }
+fn move_ways_from(tables: &MoveTables) -> MoveWays
+    requires { tables.now.parts ≤ 6 }
+    ensures { result ≡ move_ways_from tables.now }
 {
-    let leaves = leaving(tables.parts, &tables.low, &tables.high);
-    let enters = entering(tables.parts, tables.nexts, &tables.operand);
-    let count = moves::valuations(tables.parts);
-    let leave = leaves.words;
-    let enter = enters.words;
+    let leave = leaving(tables.parts, &tables.low, &tables.high).words;
+    let enter = entering(tables.parts, tables.nexts, &tables.operand).words;
     MoveWays {
-        count,
+        count: moves::valuations(tables.parts),
         leave,
         enter,
     }
@@ -87,8 +89,7 @@ pub fn move_ways_of(label: &[u16], rule: Rule) -> MoveWays
     requires { Ready label.now rule }
     ensures { result ≡ move_ways_in (ways_of label.now rule) }
 {
-    let tables = truth::tables::move_tables_of(label, rule);
-    move_ways_from(tables)
+    move_ways_from(&move_tables_of(label, rule))
 }
 
 // What a single restart works out.
@@ -97,11 +98,9 @@ pub fn restart_ways_of(label: &[u16], rule: Rule) -> RestartWays
     requires { Ready label.now rule }
     ensures { result ≡ restart_ways_in (ways_of label.now rule) }
 {
-    let tables = truth::tables::restart_tables_of(label, rule);
-    let moves = tables.moves;
-    let holds = tables.holds;
+    let RestartTables { moves, holds } = restart_tables_of(label, rule);
     RestartWays {
-        moves: move_ways_from(moves),
+        moves: move_ways_from(&moves),
         holds,
     }
 }

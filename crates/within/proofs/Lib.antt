@@ -1,3 +1,4 @@
+pub mod Folded
 pub mod Sense
 pub mod SeenLaws
 pub mod Rows

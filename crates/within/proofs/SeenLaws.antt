@@ -1,7 +1,7 @@
 -- More of specs/Seen. The propositions of a rule: on a finite trace nothing else is asked of the labels, and nothing of what stands before it.
 use mathlib.Core.Logic.Iff
 use Prim.Native.Nat.{ℕ, suc, ◌+◌, ◌-◌, ◌≤◌, ◌<◌}
-use Rattle.std.specs.Prelude.{◌≡◌, refl, ◌↔◌, ◌⊎◌, List, length}
+use Rattle.std.specs.Prelude.{◌≡◌, refl, ◌↔◌, List, length}
 use Rattle.std.proofs.Math.Path.{subst}
 use Rattle.std.proofs.Common.{inl, inr, zero-add}
 use Rattle.std.proofs.Math.Logic.{⊎_map}

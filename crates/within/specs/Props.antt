@@ -1,6 +1,6 @@
 -- The propositions of a rule as a word, and whether an event saw them all.
 use mathlib.Core.Logic.Iff
-use Rattle.std.specs.Prelude.{ℕ, zero, suc, ◌+◌, ◌-◌, ◌^◌, ◌<◌, ◌≡◌, ◌↔◌, ◌⊎◌, Bool, true, false, ◌&&◌, not, eqb, ltb, length, get_or, replicate}
+use Rattle.std.specs.Prelude.{ℕ, zero, suc, ◌-◌, ◌^◌, ◌<◌, ◌≡◌, ◌↔◌, ◌⊎◌, Bool, true, false, ◌&&◌, not, eqb, ltb, length, get_or, replicate}
 use Rattle.std.proofs.Math.Path.{refl, sym, subst}
 use Rattle.std.proofs.Common.{ap, ◌∙◌, inl, inr, ⊎_elim, arith, pow_pos, lt-ltb, le-ltb}
 use Rattle.std.proofs.Math.Logic.{⊎_map}

@@ -1,5 +1,4 @@
 -- The propositions of a rule: on a finite trace nothing else is asked of the labels, and nothing of what stands before it.
-use mathlib.Core.Logic.Iff
 use Prim.Native.Nat.{ℕ, ◌+◌, ◌-◌, ◌≤◌, ◌<◌}
 use Rattle.std.specs.Prelude.{◌≡◌, ◌↔◌, ◌⊎◌}
 use Rattle.std.proofs.Math.Path.{subst}

@@ -5,6 +5,3 @@ use Rattle.around.proofs.fill.Given as goal
 
 abbrev pub invariant-loop-i : goal.invariant-loop-i
 invariant-loop-i l = (l.i ≤ length l.labels) × (l.ahead ≡ handed_from l.op l.labels l.initial.words l.end (length l.labels - l.i) l.i) × (l.words ≡ filled_from l.op l.labels l.initial.words l.end (length l.labels - l.i) l.i)
-
-abbrev pub decreases-loop-i : goal.decreases-loop-i
-decreases-loop-i l = l.i

@@ -1,14 +1,15 @@
--- `kinds_of`: the operators of the parts passed are found.
-use mathlib.Core.Path.{refl}
-use Prim.Native.Nat.{◌-◌, zero-le}
-use native.Mathlib.Omega.{arith}
+-- `kinds_of`: each node is what its call gives.
+use Rattle.std.proofs.Common.{rules, ℕ, get_or}
+use Rattle.syntax.specs.declared.Node.{Node}
+use Rattle.syntax.specs.Value.{blank}
+use Rattle.words.specs.Below.{list_below}
+use Rattle.shape.specs.Ops.{op_at}
 use Rattle.shape.specs.Shape.{kinds_after}
-use Rattle.shape.specs.Turns.{kinds_more}
+use Rattle.shape.proofs.Made.{list_made}
 use Rattle.shape.proofs.kinds_of.Goals as goal
 
-pub loop-k-init : goal.loop-k-init
-unfolding kinds_after
-loop-k-init c = (zero-le, refl)
-
-pub loop-k-preserved : goal.loop-k-preserved
-loop-k-preserved c = (omega arith, rw kinds_more (cc))
+pub returns : goal.returns
+unfolding kinds_after list_below
+returns c =
+    let kind : ℕ → Node = λ k. record { op = op_at c.args.rule.nodes (get_or c.args.order.now k 0) } in
+    list_made blank _ _ kind (λ k y q call. search rules) 6 _ c.from_fn.ensures.items

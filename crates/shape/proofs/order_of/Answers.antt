@@ -1,6 +1,6 @@
 -- `order_of`: `order` is what the nodes passed make.
 use mathlib.Core.Path.{refl}
-use Prim.Native.Nat.{◌-◌, zero-le}
+use Prim.Native.Nat.{zero-le}
 use native.Mathlib.Omega.{arith}
 use Rattle.shape.specs.Shape.{order_of}
 use Rattle.shape.specs.Turns.{order_turn}

@@ -1,10 +1,7 @@
 -- `guesses`: `found` has what the nodes passed hand on.
-use Rattle.std.proofs.Common.{◌≡◌, ◌≤◌, ◌-◌}
+use Rattle.std.proofs.Common.{◌≡◌, ◌≤◌}
 use Rattle.within.specs.Turn.{guesses_of}
 use Rattle.within.proofs.guesses.Given as goal
 
 abbrev pub invariant-loop-at : goal.invariant-loop-at
-invariant-loop-at l = (l.at ≤ l.len) × (l.found ≡ guesses_of l.rule.nodes l.at)
-
-abbrev pub decreases-loop-at : goal.decreases-loop-at
-decreases-loop-at l = l.len - l.at
+invariant-loop-at l = (l.at ≤ l.fn.rule.len) × (l.found ≡ guesses_of l.fn.rule.nodes l.at)

@@ -1,6 +1,6 @@
 -- `nodes::fill_node`: the words passed are filled in.
 use mathlib.Core.Path.{refl}
-use Prim.Native.Nat.{◌-◌, zero-le}
+use Prim.Native.Nat.{zero-le}
 use native.Mathlib.Omega.{arith}
 use Rattle.truth.specs.Nodes.{node_filled}
 use Rattle.truth.specs.Turns.{node_turn}

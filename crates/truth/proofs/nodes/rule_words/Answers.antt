@@ -1,11 +1,8 @@
--- `nodes::rule_words`: the words passed are found, the others still 0.
-use Prim.Native.Nat.{◌-◌, zero-le}
-use native.Mathlib.Omega.{arith}
-use Rattle.words.specs.Lists.{words_none, words_turn}
+-- `nodes::rule_words`: each word is what its call gives.
+use Rattle.std.proofs.Common.{rules}
+use Rattle.words.proofs.Made.{words_made}
+use Rattle.truth.specs.Nodes.{word_at}
 use Rattle.truth.proofs.nodes.rule_words.Goals as goal
 
-pub loop-v-init : goal.loop-v-init
-loop-v-init c = (zero-le, words_none _)
-
-pub loop-v-preserved : goal.loop-v-preserved
-loop-v-preserved c = (omega arith, words_turn _ _ _ _ c.loop-v.invariant.1 c.word_at.ensures)
+pub returns : goal.returns
+returns c = words_made _ _ (word_at c.args.words.now c.args.len) (λ k y q call. search rules) _ c.from_fn.ensures.items
