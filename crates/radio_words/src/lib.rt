@@ -3,7 +3,7 @@
 #![tactic(auto)]
 
 ghost use Rattle.std.specs.Prelude.{◌≡◌, ◌+◌, ◌<◌};
-ghost use Rattle.radio_words.specs.Words.{byte_in, part_in, form_in, standing_in, radio_in, can_stand, packed_at, form_code, standing_code, standing_place, radio_word, changed_word, with_radio};
+ghost use Rattle.radio_words.specs.Words.{byte_in, part_in, form_in, standing_in, radio_in, can_stand, packed_at, form_code, standing_code, standing_place, radio_word, with_radio};
 
 use answers::{Kind, Outcome, Refusal};
 use radio::{Form, Radio};
@@ -127,20 +127,12 @@ fn radio_word(radio: &Radio, at: usize) -> u64
     }
 }
 
-#[tactic(auto, unfolding(crate::specs::Words::changed_word))]
-fn changed_word(words: &[u64; 384], radio: &Radio, at: usize) -> u64
-    requires { at < 384 }
-    ensures { result ≡ changed_word words.now radio.now at }
-{
-    match at {
-        363..373 => radio_word(radio, at - 363),
-        _ => words[at],
-    }
-}
-
-// The same box with another radio; its monitor is not among these words.
+// The same box with another radio, which is laid into a copy of the box; its monitor is not among these words.
 pub fn with_radio(words: [u64; 384], radio: Radio) -> [u64; 384]
     ensures { result ≡ with_radio words radio }
 {
-    array::from_fn(|at| changed_word(&words, &radio, at))
+    let laid: [u64; 10] = array::from_fn(|at| radio_word(&radio, at));
+    let mut changed = words;
+    changed[363..373].copy_from_slice(&laid);
+    changed
 }

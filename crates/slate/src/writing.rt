@@ -1,6 +1,6 @@
 // The words for what is held.
 ghost use Rattle.std.specs.Prelude.{◌≡◌, ◌<◌};
-ghost use Rattle.slate.specs.Box.{code_of, plant_word, table_word, rule_word, monitor_word, held_word, stored_of, changed_word, with_monitor};
+ghost use Rattle.slate.specs.Box.{code_of, plant_word, table_word, rule_word, monitor_word, held_word, stored_of, with_monitor};
 
 use crate::Held;
 use plant::{Plant, Table};
@@ -100,20 +100,12 @@ pub fn stored(held: Held) -> [u64; 384]
     array::from_fn(|at| held_word(&held, at))
 }
 
-#[tactic(auto, unfolding(crate::specs::Box::changed_word))]
-fn changed_word(words: &[u64; 384], monitor: &Monitor, at: usize) -> u64
-    requires { at < 384 }
-    ensures { result ≡ changed_word words.now monitor.now at }
-{
-    match at {
-        Held::SEEN..Held::BEHIND => monitor_word(monitor, at - Held::SEEN),
-        _ => words[at],
-    }
-}
-
-// The same box with another monitor.
+// The same box with another monitor, which is laid into a copy of the box: to choose each word of the box anew would take longer.
 pub fn with_monitor(words: [u64; 384], monitor: Monitor) -> [u64; 384]
     ensures { result ≡ with_monitor words monitor }
 {
-    array::from_fn(|at| changed_word(&words, &monitor, at))
+    let laid: [u64; 130] = array::from_fn(|at| monitor_word(&monitor, at));
+    let mut changed = words;
+    changed[Held::SEEN..Held::BEHIND].copy_from_slice(&laid);
+    changed
 }

@@ -1,8 +1,10 @@
-use Rattle.std.proofs.Common.{rules}
-use Rattle.slate.specs.Box.{changed_word, with_monitor}
-use Rattle.slate.proofs.Made.{list_made}
+use Rattle.std.proofs.Common.{◌∙◌, arith, rules}
+use Rattle.slate.specs.Box.{monitor_word, changed_word, with_monitor}
+use Rattle.slate.proofs.Made.{list_made, laid_over}
 use Rattle.slate.proofs.writing.with_monitor.Goals as goal
 
 pub returns : goal.returns
-unfolding with_monitor
-returns c = list_made _ _ (changed_word c.args.words c.args.monitor) 0 (λ k y q call. search rules) 384 _ c.from_fn.ensures.items
+unfolding changed_word with_monitor
+returns c =
+    let laid = list_made _ _ (monitor_word c.args.monitor) 0 (λ k y q call. search rules) 130 _ c.from_fn-laid.ensures.items in
+    laid_over c.args.words c.copy_from_slice.new.self 233 130 384 (monitor_word c.args.monitor) (search rules) (omega arith) (c.copy_from_slice.ensures.after ∙ laid)
