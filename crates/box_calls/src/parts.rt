@@ -8,20 +8,12 @@ use plant::{Plant, Table};
 pub fn fairs_of(table: Table) -> usize
     ensures { IsPrefixLen result table.fair × (take result table.fair ≡ fair_in table) }
 {
-    let plant = table.plant;
-    if Plant::JUST < plant.just {
-        return Plant::JUST;
-    }
-    plant.just
+    table.plant.just.min(Plant::JUST)
 }
 
 pub fn states_of(table: Table) -> usize
     ensures labels { IsPrefixLen result table.label × (take result table.label ≡ label_in table) }
     ensures next { IsPrefixLen result table.next × (take result table.next ≡ next_in table) }
 {
-    let plant = table.plant;
-    if Plant::STATES < plant.states {
-        return Plant::STATES;
-    }
-    plant.states
+    table.plant.states.min(Plant::STATES)
 }

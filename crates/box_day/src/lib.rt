@@ -19,20 +19,16 @@ use slate::{Held, held_in, with_monitor};
 use stretches::DaySheet;
 
 // The call, for what a box and a day hold.
+#[tactic(auto, unfolding(crate::specs::Day::noted_in))]
 fn note_from(held: Held, sheet: DaySheet, event: Event) -> Noted
     ensures { result ≡ noted_in held sheet event }
 {
-    let table = held.table;
-    let just = fairs_of(table);
-    let states = states_of(table);
-    let fair = table.fair;
-    let label = table.label;
-    let next = table.next;
+    let states = states_of(held.table);
     day_sheet::note(
-        table.plant,
-        &fair[..just],
-        &label[..states],
-        &next[..states],
+        held.table.plant,
+        &held.table.fair[..fairs_of(held.table)],
+        &held.table.label[..states],
+        &held.table.next[..states],
         held.rule,
         held.live,
         held.monitor,
@@ -41,40 +37,16 @@ fn note_from(held: Held, sheet: DaySheet, event: Event) -> Noted
     )
 }
 
-// The box behind a noted event: with the new monitor, and the same where it is refused.
-fn box_noted(words: [u64; 384], noted: Noted) -> [u64; 384]
-    ensures { result ≡ box_noted words noted }
-{
-    let answer = noted.answer;
-    let monitor = noted.monitor;
-    match answer {
-        Answer::Shown(_) => with_monitor(words, monitor),
-        Answer::Refused(_) => words,
-    }
-}
-
-// And the day.
-fn day_noted(words: [u64; 260], noted: Noted) -> [u64; 260]
-    ensures { result ≡ day_noted words noted }
-{
-    let answer = noted.answer;
-    let sheet = noted.sheet;
-    match answer {
-        Answer::Shown(_) => with_sheet(words, sheet),
-        Answer::Refused(_) => words,
-    }
-}
-
-// One event, noted in the day.
+// One event, noted in the day: the box gets the new monitor and the day the new sheet, and both stay where it is refused.
 pub fn note(words: &mut [u64; 384], day: &mut [u64; 260], event: Event) -> Answer
     ensures answer { result ≡ (noted_in (held_in words.old) (sheet_in day.old) event).answer }
     ensures words { words.new ≡ box_noted words.old (noted_in (held_in words.old) (sheet_in day.old) event) }
     ensures day { day.new ≡ day_noted day.old (noted_in (held_in words.old) (sheet_in day.old) event) }
 {
-    let kept = *words;
-    let before = *day;
-    let noted = note_from(held_in(kept), sheet_in(before), event);
-    *words = box_noted(kept, noted);
-    *day = day_noted(before, noted);
+    let noted = note_from(held_in(*words), sheet_in(*day), event);
+    if let Answer::Shown(_) = noted.answer {
+        *words = with_monitor(*words, noted.monitor);
+        *day = with_sheet(*day, noted.sheet);
+    }
     noted.answer
 }

@@ -22,13 +22,9 @@ fn plant_where(plant: Plant, fits: bool) -> Plant
     ensures { result ≡ plant_where fits plant }
 {
     if fits {
-        return plant;
-    }
-    Plant {
-        props: 0,
-        states: plant.states,
-        start: plant.start,
-        just: plant.just,
+        plant
+    } else {
+        Plant { props: 0, ..plant }
     }
 }
 
@@ -38,18 +34,12 @@ fn take_from(held: Held, radio: Radio, fits: bool, scrap: &[u8], verdicts: &mut 
     ensures taken { result ≡ (took_from held radio fits scrap.now (length verdicts.old)).taken }
     ensures verdicts { verdicts.new ≡ laid (took_from held radio fits scrap.now (length verdicts.old)).verdicts verdicts.old }
 {
-    let table = held.table;
-    let plant = table.plant;
-    let just = fairs_of(table);
-    let states = states_of(table);
-    let fair = table.fair;
-    let label = table.label;
-    let next = table.next;
+    let states = states_of(held.table);
     scraps::take(
-        plant_where(plant, fits),
-        &fair[..just],
-        &label[..states],
-        &next[..states],
+        plant_where(held.table.plant, fits),
+        &held.table.fair[..fairs_of(held.table)],
+        &held.table.label[..states],
+        &held.table.next[..states],
         held.rule,
         held.live,
         radio,
@@ -63,50 +53,30 @@ fn take_from(held: Held, radio: Radio, fits: bool, scrap: &[u8], verdicts: &mut 
 fn end_from(held: Held, radio: Radio, fits: bool) -> Outcome
     ensures { result ≡ end_from held radio fits }
 {
-    let table = held.table;
-    let plant = table.plant;
-    let just = fairs_of(table);
-    let states = states_of(table);
-    let fair = table.fair;
-    let label = table.label;
-    let next = table.next;
+    let states = states_of(held.table);
     scraps::finish(
-        plant_where(plant, fits),
-        &fair[..just],
-        &label[..states],
-        &next[..states],
+        plant_where(held.table.plant, fits),
+        &held.table.fair[..fairs_of(held.table)],
+        &held.table.label[..states],
+        &held.table.next[..states],
         held.rule,
         held.live,
         radio,
     )
 }
 
-// The box behind a scrap: with the new monitor and radio, and the same where nothing was taken.
-fn box_taken(words: [u64; 384], taken: Taken) -> [u64; 384]
-    ensures { result ≡ box_taken words taken }
-{
-    let answer = taken.answer;
-    let radio = taken.radio;
-    let monitor = radio.monitor;
-    match answer {
-        LogAnswer::Refused(_) => words,
-        LogAnswer::Stopped(_) => with_radio(with_monitor(words, monitor), radio),
-        LogAnswer::Watched(_) => with_radio(with_monitor(words, monitor), radio),
-    }
-}
-
-// A scrap of a log: a verdict byte for each event whose line it ends.
+// A scrap of a log: a verdict byte for each event whose line it ends. The box gets the new monitor and radio, and stays where nothing was taken.
 pub fn take(words: &mut [u64; 384], scrap: &[u8], verdicts: &mut [u8]) -> LogAnswer
     ensures answer { result ≡ (took_in words.old scrap.now (length verdicts.old)).taken.answer }
     ensures words { words.new ≡ box_taken words.old (took_in words.old scrap.now (length verdicts.old)).taken }
     ensures verdicts { verdicts.new ≡ laid (took_in words.old scrap.now (length verdicts.old)).verdicts verdicts.old }
 {
-    let kept = *words;
-    let held = held_in(kept);
-    let monitor = held.monitor;
-    let radio = radio_in(kept, monitor);
-    let taken = take_from(held, radio, can_stand(kept), scrap, verdicts);
-    *words = box_taken(kept, taken);
+    let held = held_in(*words);
+    let radio = radio_in(*words, held.monitor);
+    let taken = take_from(held, radio, can_stand(*words), scrap, verdicts);
+    if let LogAnswer::Watched(_) | LogAnswer::Stopped(_) = taken.answer {
+        *words = with_radio(with_monitor(*words, taken.radio.monitor), taken.radio);
+    }
     taken.answer
 }
 
@@ -114,9 +84,7 @@ pub fn take(words: &mut [u64; 384], scrap: &[u8], verdicts: &mut [u8]) -> LogAns
 pub fn finish(words: &[u64; 384]) -> Outcome
     ensures { result ≡ end_in words.now }
 {
-    let kept = *words;
-    let held = held_in(kept);
-    let monitor = held.monitor;
-    let radio = radio_in(kept, monitor);
-    end_from(held, radio, can_stand(kept))
+    let held = held_in(*words);
+    let radio = radio_in(*words, held.monitor);
+    end_from(held, radio, can_stand(*words))
 }

@@ -9,5 +9,5 @@ use told::Answer;
 pub fn jug_close_log(table: &[u8], rule: &[u8], log: &[u8], edition: u64) -> Answer
     ensures { result ≡ closed_as (closed_of table.now rule.now log.now edition) }
 {
-    told::closed(closing::close_log(table, rule, log, edition))
+    closing::close_log(table, rule, log, edition).into()
 }

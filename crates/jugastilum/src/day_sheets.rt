@@ -8,6 +8,7 @@ ghost use Rattle.told.specs.Told.{shown_as, sheet_wrote_as};
 ghost use Rattle.box_day.specs.Day.{noted_in, box_noted, day_noted};
 ghost use Rattle.jugastilum.specs.Calls.{event_from};
 
+use crate::event_of;
 use day_words::sheet_in;
 use event_log::{Event, Num};
 use told::Answer;
@@ -16,20 +17,12 @@ use told::Answer;
 fn event_from(numbered: u8, num: u32, see: u16, val: u16, restart: u8) -> Event
     ensures { result ≡ event_from numbered num see val restart }
 {
-    if numbered == 0 {
-        return Event {
-            num: Num::Expected,
-            see,
-            val,
-            new: restart != 0,
-        };
-    }
-    Event {
-        num: Num::Given(num),
-        see,
-        val,
-        new: restart != 0,
-    }
+    let num = if numbered == 0 {
+        Num::Expected
+    } else {
+        Num::Given(num)
+    };
+    event_of(num, see, val, restart)
 }
 
 // One event, noted in the day.
@@ -47,7 +40,7 @@ pub fn jug_note(
     ensures day { day.new ≡ day_noted day.old (noted_in (held_in words.old) (sheet_in day.old) (event_from numbered num see val restart)) }
 {
     let event = event_from(numbered, num, see, val, restart);
-    told::shown(box_day::note(words, day, event))
+    box_day::note(words, day, event).into()
 }
 
 // The sheet of a day as its text.
@@ -55,6 +48,5 @@ pub fn jug_day_sheet(day: &[u64; 260], text: &mut [u8]) -> Answer
     ensures answer { result ≡ sheet_wrote_as (write_answer (sheet_in day.now) text.old) }
     ensures text { text.new ≡ write_buffer (sheet_in day.now) text.old }
 {
-    let kept = *day;
-    told::sheet_written(day_writer::write_sheet(sheet_in(kept), text))
+    day_writer::write_sheet(sheet_in(*day), text).into()
 }

@@ -29,13 +29,25 @@ pub use sheets::{jug_keep_sheet, jug_kept_sheet, jug_setting};
 pub use tables::jug_write_table;
 use told::Answer;
 
+// An event as the header hands it in: a restart unless the byte is 0.
+fn event_of(num: Num, see: u16, val: u16, restart: u8) -> Event
+    ensures { result ≡ event_of num see val restart }
+{
+    Event {
+        num,
+        see,
+        val,
+        new: restart != 0,
+    }
+}
+
 // A whole log: a verdict byte for each event.
 pub fn jug_watch_log(table: &[u8], rule: &[u8], log: &[u8], verdicts: &mut [u8]) -> Answer
     ensures answer { result ≡ heard_as (heard_of table.now rule.now log.now (length verdicts.old)).answer }
     ensures verdicts { verdicts.new ≡ over
         (heard_of table.now rule.now log.now (length verdicts.old)).bytes verdicts.old }
 {
-    told::heard(controller::watch_log(table, rule, log, verdicts))
+    controller::watch_log(table, rule, log, verdicts).into()
 }
 
 // Reads a table and a rule, and opens a monitor in the box, whatever was in it.
@@ -43,14 +55,14 @@ pub fn jug_open(table: &[u8], rule: &[u8], words: &mut [u64; 384]) -> Answer
     ensures answer { result ≡ shown_as (opened_shown (opened_of table.now rule.now)) }
     ensures words { words.new ≡ box_opened words.old (opened_of table.now rule.now) }
 {
-    told::shown(box_calls::open(table, rule, words))
+    box_calls::open(table, rule, words).into()
 }
 
 // What the lamp shows for the monitor in the box.
 pub fn jug_look(words: &[u64; 384]) -> Answer
     ensures { result ≡ shown_as (looked_in (held_in words.now)) }
 {
-    told::shown(box_calls::look(words))
+    box_calls::look(words).into()
 }
 
 // One event, which has the number that is expected.
@@ -58,13 +70,7 @@ pub fn jug_step(words: &mut [u64; 384], see: u16, val: u16, restart: u8) -> Answ
     ensures answer { result ≡ shown_as (stepped_in (held_in words.old) (event_of Expected see val restart)).answer }
     ensures words { words.new ≡ box_after words.old (stepped_in (held_in words.old) (event_of Expected see val restart)) }
 {
-    let event = Event {
-        num: Num::Expected,
-        see,
-        val,
-        new: restart != 0,
-    };
-    told::shown(box_calls::step(words, event))
+    box_calls::step(words, event_of(Num::Expected, see, val, restart)).into()
 }
 
 // One event with its number.
@@ -78,18 +84,12 @@ pub fn jug_step_numbered(
     ensures answer { result ≡ shown_as (stepped_in (held_in words.old) (event_of (Given num) see val restart)).answer }
     ensures words { words.new ≡ box_after words.old (stepped_in (held_in words.old) (event_of (Given num) see val restart)) }
 {
-    let event = Event {
-        num: Num::Given(num),
-        see,
-        val,
-        new: restart != 0,
-    };
-    told::shown(box_calls::step(words, event))
+    box_calls::step(words, event_of(Num::Given(num), see, val, restart)).into()
 }
 
 // How a run goes on that keeps the rule, or that breaks it where `keeps` is 0.
 pub fn jug_goes_on(words: &[u64; 384], keeps: u8, states: &mut [u8]) -> Answer
     ensures { GoesOn (held_in words.now) (not (eqb keeps 0)) states.old states.new result }
 {
-    told::run(box_calls::goes_on(words, keeps != 0, states))
+    box_calls::goes_on(words, keeps != 0, states).into()
 }

@@ -8,7 +8,8 @@ ghost use Rattle.opened.specs.Opened.{opened_of};
 ghost use Rattle.told.specs.Told.{looked_as, through_as};
 ghost use Rattle.jugastilum.specs.Calls.{event_of, MachineFor};
 
-use event_log::{Event, Num};
+use crate::event_of;
+use event_log::Num;
 use machine_events::look_through;
 use machine_lookup::look_up;
 use machine_texts::made_from;
@@ -18,7 +19,7 @@ use told::Answer;
 pub fn jug_machine(table: &[u8], rule: &[u8], work: &mut [u64], machine: &mut [u8]) -> Answer
     ensures { MachineFor (opened_of table.now rule.now) work.old work.new machine.old machine.new result }
 {
-    told::made(made_from(table, rule, work, machine))
+    made_from(table, rule, work, machine).into()
 }
 
 // One event in the bytes of a machine: from a row to the next.
@@ -32,13 +33,8 @@ pub fn jug_machine_step(
 ) -> Answer
     ensures { result ≡ looked_as (looked_up machine.now props row (event_of Expected see val restart)) }
 {
-    let event = Event {
-        num: Num::Expected,
-        see,
-        val,
-        new: restart != 0,
-    };
-    told::looked(look_up(machine, props as usize, row as usize, event))
+    let event = event_of(Num::Expected, see, val, restart);
+    look_up(machine, props as usize, row as usize, event).into()
 }
 
 // Many events in the bytes of a machine, a byte each, and two bytes for what each shows.
@@ -52,5 +48,5 @@ pub fn jug_machine_steps(
     ensures answer { result ≡ through_as (through_of machine.now props row events.now (length shown.old)).through }
     ensures shown { shown.new ≡ over (through_of machine.now props row events.now (length shown.old)).shown shown.old }
 {
-    told::looked_through(look_through(machine, props as usize, row as usize, events, shown))
+    look_through(machine, props as usize, row as usize, events, shown).into()
 }

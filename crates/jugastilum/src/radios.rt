@@ -12,12 +12,12 @@ pub fn jug_take(words: &mut [u64; 384], scrap: &[u8], verdicts: &mut [u8]) -> An
     ensures words { words.new ≡ box_taken words.old (took_in words.old scrap.now (length verdicts.old)).taken }
     ensures verdicts { verdicts.new ≡ laid (took_in words.old scrap.now (length verdicts.old)).verdicts verdicts.old }
 {
-    told::heard(box_radio::take(words, scrap, verdicts))
+    box_radio::take(words, scrap, verdicts).into()
 }
 
 // Whether the log may end where it stands.
 pub fn jug_end(words: &[u64; 384]) -> Answer
     ensures { result ≡ end_as (end_in words.now) }
 {
-    told::ended(box_radio::finish(words))
+    box_radio::finish(words).into()
 }

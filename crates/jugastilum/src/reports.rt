@@ -21,7 +21,8 @@ pub fn jug_judge(
     ensures { result ≡ judged_as (judged_of table.now rule.now log.now
         (report_of claim keep_stem.now keep_loop.now break_stem.now break_loop.now)) }
 {
-    told::judged(judge_report(
+    judge_report(
         table, rule, log, claim, keep_stem, keep_loop, break_stem, break_loop,
-    ))
+    )
+    .into()
 }

@@ -15,20 +15,20 @@ use told::Answer;
 pub fn jug_setting<'a>(local: &'a [u8], shared: &'a [u8], key: u8) -> Answer
     ensures { result ≡ setting_for key local.now shared.now }
 {
-    if key == 1 {
-        return told::asked(settings::ask(local, shared, Key::Edition));
-    }
-    if key == 2 {
-        return told::asked(settings::ask(local, shared, Key::Rule));
-    }
-    if key == 3 {
-        return told::asked(settings::ask(local, shared, Key::Closing));
-    }
-    told::sheet_refused(SheetRefusal {
-        kind: Kind::Value,
-        sheet: 0,
-        place: 0,
-    })
+    let key = match key {
+        1 => Key::Edition,
+        2 => Key::Rule,
+        3 => Key::Closing,
+        _ => {
+            return SheetRefusal {
+                kind: Kind::Value,
+                sheet: 0,
+                place: 0,
+            }
+            .into();
+        }
+    };
+    settings::ask(local, shared, key).into()
 }
 
 // Keeps a sheet by its own edition.
@@ -36,7 +36,7 @@ pub fn jug_keep_sheet(store: &mut [u64; 1040], sheet: &[u8]) -> Answer
     ensures answer { result ≡ held_as (added (store_in store.old) sheet.now).answer }
     ensures words { store.new ≡ next_words store.old (added (store_in store.old) sheet.now) }
 {
-    told::held(store_words::keep_sheet(store, sheet))
+    store_words::keep_sheet(store, sheet).into()
 }
 
 // Copies out the sheet of an edition.
@@ -44,5 +44,5 @@ pub fn jug_kept_sheet(store: &[u64; 1040], edition: u64, buffer: &mut [u8]) -> A
     ensures answer { result ≡ copied_as (copied (store_in store.now) edition buffer.old).answer }
     ensures buffer { buffer.new ≡ (copied (store_in store.now) edition buffer.old).buffer }
 {
-    told::copied(store_words::copy_sheet(store, edition as usize, buffer))
+    store_words::copy_sheet(store, edition as usize, buffer).into()
 }

@@ -27,5 +27,5 @@ pub fn jug_write_table(
         start,
         just: just as usize,
     };
-    told::table_written(plant_writer::write_table(plant, fair, label, next, text))
+    plant_writer::write_table(plant, fair, label, next, text).into()
 }

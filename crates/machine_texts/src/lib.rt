@@ -19,17 +19,11 @@ fn made_of(table: Table, rule: Rule, work: &mut [u64], machine: &mut [u8]) -> Ma
     requires { Lent table }
     ensures { MadeOf table rule work.old work.new machine.old machine.new result }
 {
-    let plant = table.plant;
-    let just = plant.just;
-    let states = plant.states;
-    let fair = table.fair;
-    let label = table.label;
-    let next = table.next;
     make_machine(
-        plant,
-        &fair[..just],
-        &label[..states],
-        &next[..states],
+        table.plant,
+        &table.fair[..table.plant.just],
+        &table.label[..table.plant.states],
+        &table.next[..table.plant.states],
         rule,
         work,
         machine,
@@ -37,15 +31,13 @@ fn made_of(table: Table, rule: Rule, work: &mut [u64], machine: &mut [u8]) -> Ma
 }
 
 // Reads a table and a rule, and writes the fixed machine that answers as their monitor does.
+#[tactic(auto, using(crate::specs::Texts::read_lent))]
 pub fn made_from(table: &[u8], rule: &[u8], work: &mut [u64], machine: &mut [u8]) -> Made
     ensures { MadeFrom (opened_of table.now rule.now) work.old work.new machine.old machine.new result }
 {
     let opened = open_texts(table, rule);
-    let outcome = opened.outcome;
-    let table = opened.table;
-    let rule = opened.rule;
-    match outcome {
+    match opened.outcome {
         Outcome::Refused(refusal) => Made::Refused(refusal),
-        Outcome::Accepted => made_of(table, rule, work, machine),
+        Outcome::Accepted => made_of(opened.table, opened.rule, work, machine),
     }
 }

@@ -8,56 +8,45 @@ ghost use Rattle.radio_words.specs.Words.{byte_in, part_in, form_in, standing_in
 use answers::{Kind, Outcome, Refusal};
 use radio::{Form, Radio};
 use sides::Monitor;
+use std::array;
 
-// A byte of the part: a word shifted down. The words are lent: handed over by value they would be copied for each byte.
-#[tactic(auto, unfolding(crate::specs::Words::byte_in))]
+// A byte of the part: eight stand in a word, the first one lowest.
+#[tactic(auto, using(crate::proofs::Bytes::byte_is), unfolding(crate::specs::Words::byte_in))]
 fn byte_in(words: &[u64; 384], at: usize) -> u8
     requires { at < 40 }
     ensures { result ≡ byte_in words.now at }
 {
-    let word = words[363 + at / 8];
-    ((word / words::single(8 * (at % 8))) % 256) as u8
+    words[363 + at / 8].to_le_bytes()[at % 8]
 }
 
-fn part_in(words: [u64; 384]) -> [u8; 40]
-    ensures { result ≡ part_in words }
+fn part_in(words: &[u64; 384]) -> [u8; 40]
+    ensures { result ≡ part_in words.now }
 {
-    let mut part = [0u8; 40];
-    for at in 0..40 {
-        part[at] = byte_in(&words, at);
-    }
-    part
+    array::from_fn(|at| byte_in(words, at))
 }
 
-// By the tests.
 #[tactic(auto, unfolding(crate::specs::Words::form_in))]
 fn form_in(code: u64) -> Form
     ensures { result ≡ form_in code }
 {
-    if code == 1 {
-        return Form::Plain;
+    match code {
+        1 => Form::Plain,
+        2 => Form::Numbered,
+        _ => Form::Unknown,
     }
-    if code == 2 {
-        return Form::Numbered;
-    }
-    Form::Unknown
 }
 
-// What can stand is an event's refusal, 10 or 16, or a byte's, 12. By the tests.
+// What can stand is an event's refusal, 10 or 16, or a byte's, 12.
 #[tactic(auto, unfolding(crate::specs::Words::standing_in))]
 fn standing_in(code: u64, place: usize) -> Outcome
     ensures { result ≡ standing_in code place }
 {
-    if code == 10 {
-        return Outcome::Refused(Refusal::at(Kind::IllegalEvent, place));
+    match code {
+        10 => Outcome::Refused(Refusal::at(Kind::IllegalEvent, place)),
+        12 => Outcome::Refused(Refusal::at(Kind::LogText, place)),
+        16 => Outcome::Refused(Refusal::at(Kind::Number, place)),
+        _ => Outcome::Accepted,
     }
-    if code == 12 {
-        return Outcome::Refused(Refusal::at(Kind::LogText, place));
-    }
-    if code == 16 {
-        return Outcome::Refused(Refusal::at(Kind::Number, place));
-    }
-    Outcome::Accepted
 }
 
 // What the words say, with a monitor, field by field.
@@ -65,15 +54,12 @@ fn standing_in(code: u64, place: usize) -> Outcome
 pub fn radio_in(words: [u64; 384], monitor: Monitor) -> Radio
     ensures { result ≡ radio_in words monitor }
 {
-    let part = part_in(words);
-    let form = form_in(words[370]);
-    let standing = standing_in(words[371], words[372] as usize);
     Radio {
-        part,
+        part: part_in(&words),
         len: words[368] as usize,
         start: words[369] as usize,
-        form,
-        standing,
+        form: form_in(words[370]),
+        standing: standing_in(words[371], words[372] as usize),
         monitor,
     }
 }
@@ -83,23 +69,19 @@ pub fn radio_in(words: [u64; 384], monitor: Monitor) -> Radio
 pub fn can_stand(words: [u64; 384]) -> bool
     ensures { result ≡ can_stand words }
 {
-    let code = words[371];
-    if code == 0 {
-        return (words[370] < 3) & (words[372] == 0);
+    match words[371] {
+        0 => words[370] < 3 && words[372] == 0,
+        10 | 12 | 16 => words[370] < 3,
+        _ => false,
     }
-    (words[370] < 3) & ((code == 10) | ((code == 12) | (code == 16)))
 }
 
 // Eight bytes of the part in a word, the first one lowest.
-fn packed(part: [u8; 40], word: usize) -> u64
+fn packed(part: &[u8; 40], word: usize) -> u64
     requires { word < 5 }
-    ensures { result ≡ packed_at part word }
+    ensures { result ≡ packed_at part.now word }
 {
-    let mut all: u64 = 0;
-    for i in 0..8 {
-        all = (all % 72057594037927936) * 256 + words::of_byte(part[8 * word + (7 - i)]);
-    }
-    all
+    u64::from_le_bytes(array::from_fn(|i| part[8 * word + i]))
 }
 
 fn form_code(form: Form) -> u64
@@ -117,10 +99,7 @@ fn standing_code(standing: Outcome) -> u64
 {
     match standing {
         Outcome::Accepted => 0,
-        Outcome::Refused(refusal) => {
-            let kind = refusal.kind;
-            words::of_byte(kind.number())
-        }
+        Outcome::Refused(refusal) => u64::from(refusal.kind.number()),
     }
 }
 
@@ -133,39 +112,27 @@ fn standing_place(standing: Outcome) -> u64
     }
 }
 
-// One of the ten. Each return computes by the tests that led to it.
+// One of the ten. The radio is lent: handed over by value it would be copied for each word.
 #[tactic(auto, unfolding(crate::specs::Words::radio_word))]
-fn radio_word(radio: Radio, at: usize) -> u64
-    ensures { result ≡ radio_word radio at }
+fn radio_word(radio: &Radio, at: usize) -> u64
+    ensures { result ≡ radio_word radio.now at }
 {
-    if at < 5 {
-        let part = radio.part;
-        return packed(part, at);
+    match at {
+        0..5 => packed(&radio.part, at),
+        5 => radio.len as u64,
+        6 => radio.start as u64,
+        7 => form_code(radio.form),
+        8 => standing_code(radio.standing),
+        _ => standing_place(radio.standing),
     }
-    if at == 5 {
-        return radio.len as u64;
-    }
-    if at == 6 {
-        return radio.start as u64;
-    }
-    if at == 7 {
-        let form = radio.form;
-        return form_code(form);
-    }
-    let standing = radio.standing;
-    if at == 8 {
-        return standing_code(standing);
-    }
-    standing_place(standing)
 }
 
-// The same box with another radio; its monitor is not among these words.
+// The same box with another radio, which is laid into a copy of the box; its monitor is not among these words.
 pub fn with_radio(words: [u64; 384], radio: Radio) -> [u64; 384]
     ensures { result ≡ with_radio words radio }
 {
+    let laid: [u64; 10] = array::from_fn(|at| radio_word(&radio, at));
     let mut changed = words;
-    for at in 0..10 {
-        changed[363 + at] = radio_word(radio, at);
-    }
+    changed[363..373].copy_from_slice(&laid);
     changed
 }

@@ -6,6 +6,7 @@ use crate::Held;
 use pairs::Pairs;
 use plant::{Plant, Table};
 use sides::Monitor;
+use std::array;
 use syntax::{Node, Op, Rule};
 
 // Whether a word can stand at a place: a label has 16 bits, a node one of 267 codes, and whether an event came is 0 or 1. All other fields have 64 bits.
@@ -13,33 +14,19 @@ use syntax::{Node, Op, Rule};
 fn can_be(at: usize, word: u64) -> bool
     ensures { result ≡ can_be at word }
 {
-    if at < Held::LABEL {
-        return true;
+    match at {
+        Held::LABEL..Held::NEXT => word < 65536,
+        Held::NODES..Held::LIVE => word < 267,
+        Held::SEEN => word < 2,
+        _ => true,
     }
-    if at < Held::NEXT {
-        return word < 65536;
-    }
-    if at < Held::NODES {
-        return true;
-    }
-    if at < Held::LIVE {
-        return word < 267;
-    }
-    if at == Held::SEEN {
-        return word < 2;
-    }
-    true
 }
 
 // Whether no word is more than its field can hold.
-fn fits(words: [u64; 384]) -> bool
-    ensures { result ≡ fits_in words }
+fn fits(words: &[u64; 384]) -> bool
+    ensures { result ≡ fits_in words.now }
 {
-    let mut all = true;
-    for at in 0..384 {
-        all = all & can_be(at, words[at]);
-    }
-    all
+    words.iter().enumerate().all(|(at, &word)| can_be(at, word))
 }
 
 // The operator of a code: eleven, and behind them the propositions.
@@ -63,72 +50,56 @@ fn op_of(code: u64) -> Op
     }
 }
 
-fn labels_in(words: [u64; 384]) -> [u16; 64]
-    ensures { result ≡ labels_in words }
+fn labels_in(words: &[u64; 384]) -> [u16; 64]
+    ensures { result ≡ labels_in words.now }
 {
-    let mut label = [0u16; 64];
-    for i in 0..64 {
-        label[i] = (words[Held::LABEL + i] % 65536) as u16;
-    }
-    label
+    array::from_fn(|i| (words[Held::LABEL + i] % 65536) as u16)
 }
 
 // The 64 words from one on.
-fn words_in(words: [u64; 384], from: usize) -> [u64; 64]
+fn words_in(words: &[u64; 384], from: usize) -> [u64; 64]
     requires { from ≤ 320 }
-    ensures { result ≡ words_in words from }
+    ensures { result ≡ words_in words.now from }
 {
-    let mut part = [0u64; 64];
-    for i in 0..64 {
-        part[i] = words[from + i];
-    }
-    part
+    array::from_fn(|i| words[from + i])
 }
 
-fn nodes_in(words: [u64; 384]) -> [Node; 32]
-    ensures { result ≡ nodes_in words }
+fn nodes_in(words: &[u64; 384]) -> [Node; 32]
+    ensures { result ≡ nodes_in words.now }
 {
-    let none = Node { op: Op::False };
-    let mut nodes = [none; 32];
-    for i in 0..32 {
-        nodes[i] = Node {
-            op: op_of(words[Held::NODES + i]),
-        };
-    }
-    nodes
+    array::from_fn(|i| Node {
+        op: op_of(words[Held::NODES + i]),
+    })
 }
 
 // How many propositions the table counts: none where a word is more than its field can hold.
-fn props_in(words: [u64; 384]) -> u64
-    ensures { result ≡ props_in words }
+#[tactic(auto, unfolding(crate::specs::Box::props_in))]
+fn props_in(words: &[u64; 384]) -> u64
+    ensures { result ≡ props_in words.now }
 {
-    if fits(words) {
-        return words[0];
-    }
-    0
+    if fits(words) { words[0] } else { 0 }
 }
 
-fn table_in(words: [u64; 384]) -> Table
-    ensures { result ≡ table_in words }
+#[tactic(auto, unfolding(crate::specs::Box::table_in, words::specs::Below::list_below))]
+fn table_in(words: &[u64; 384]) -> Table
+    ensures { result ≡ table_in words.now }
 {
-    let plant = Plant {
-        props: props_in(words) as usize,
-        states: words[1] as usize,
-        start: words[2],
-        just: words[3] as usize,
-    };
-    let fair = [words[4], words[5], words[6], words[7]];
     Table {
-        plant,
-        fair,
+        plant: Plant {
+            props: props_in(words) as usize,
+            states: words[1] as usize,
+            start: words[2],
+            just: words[3] as usize,
+        },
+        fair: [words[4], words[5], words[6], words[7]],
         label: labels_in(words),
         next: words_in(words, Held::NEXT),
     }
 }
 
 #[tactic(auto, unfolding(crate::specs::Box::rule_in))]
-fn rule_in(words: [u64; 384]) -> Rule
-    ensures { result ≡ rule_in words }
+fn rule_in(words: &[u64; 384]) -> Rule
+    ensures { result ≡ rule_in words.now }
 {
     Rule {
         len: words[Held::LEN] as usize,
@@ -137,19 +108,17 @@ fn rule_in(words: [u64; 384]) -> Rule
 }
 
 #[tactic(auto, unfolding(crate::specs::Box::monitor_in))]
-fn monitor_in(words: [u64; 384]) -> Monitor
-    ensures { result ≡ monitor_in words }
+fn monitor_in(words: &[u64; 384]) -> Monitor
+    ensures { result ≡ monitor_in words.now }
 {
-    let keeps = Pairs {
-        words: words_in(words, Held::KEEPS),
-    };
-    let breaks = Pairs {
-        words: words_in(words, Held::BREAKS),
-    };
     Monitor {
         seen: words[Held::SEEN] != 0,
-        keeps,
-        breaks,
+        keeps: Pairs {
+            words: words_in(words, Held::KEEPS),
+        },
+        breaks: Pairs {
+            words: words_in(words, Held::BREAKS),
+        },
         expected: words[Held::EXPECTED],
     }
 }
@@ -159,13 +128,12 @@ fn monitor_in(words: [u64; 384]) -> Monitor
 pub fn held_in(words: [u64; 384]) -> Held
     ensures { result ≡ held_in words }
 {
-    let live = Pairs {
-        words: words_in(words, Held::LIVE),
-    };
     Held {
-        table: table_in(words),
-        rule: rule_in(words),
-        live,
-        monitor: monitor_in(words),
+        table: table_in(&words),
+        rule: rule_in(&words),
+        live: Pairs {
+            words: words_in(&words, Held::LIVE),
+        },
+        monitor: monitor_in(&words),
     }
 }

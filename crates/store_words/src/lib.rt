@@ -7,38 +7,25 @@ ghost use Rattle.sheet_store.specs.Store.{added, copied};
 ghost use Rattle.store_words.specs.Words.{next_words, byte_of, packed, kept_in, store_in, word_of, words_of};
 
 use sheet_store::{AddAnswer, Added, Copied, Kept, Store};
-use words::of_byte;
+use std::array;
 
 // Byte k of a word.
-#[tactic(auto, using(crate::specs::Laws::byte_turn, crate::specs::Laws::byte_last))]
+#[tactic(auto, using(crate::proofs::Bytes::byte_is))]
 fn byte_of(word: u64, k: usize) -> u8
+    requires { k < 8 }
     ensures { result ≡ byte_of word k }
 {
-    let mut w = word;
-    let mut i = k;
-    while 0 < i {
-        w = w / 256;
-        i -= 1;
-    }
-    (w % 256) as u8
+    word.to_le_bytes()[k]
 }
 
 // Sheet i of a store in words.
-#[tactic(auto, using(words::specs::Lists::filled_none, words::specs::Lists::filled_turn, words::specs::Lists::filled_all, words::specs::Lists::length_filled, std::proofs::lemmas::Grind::common_steps), unfolding(crate::specs::Words::kept_in))]
-fn kept_at(words: [u64; 1040], i: usize) -> Kept
+fn kept_at(words: &[u64; 1040], i: usize) -> Kept
     requires { i < 8 }
-    ensures { result ≡ kept_in words i }
+    ensures { result ≡ kept_in words.now i }
 {
-    let mut bytes = [0u8; 1024];
-    let mut j = 0;
-    while j < 1024 {
-        bytes[j] = byte_of(words[9 + 128 * i + j / 8], j % 8);
-        j += 1;
-    }
-    let len = words[1 + i];
     Kept {
-        len: len as usize,
-        bytes,
+        len: words[1 + i] as usize,
+        bytes: array::from_fn(|j| byte_of(words[9 + 128 * i + j / 8], j % 8)),
     }
 }
 
@@ -47,76 +34,39 @@ fn kept_at(words: [u64; 1040], i: usize) -> Kept
 pub fn store_of(words: [u64; 1040]) -> Store
     ensures { result ≡ store_in words }
 {
-    let count = words[0];
-    let sheets = [
-        kept_at(words, 0),
-        kept_at(words, 1),
-        kept_at(words, 2),
-        kept_at(words, 3),
-        kept_at(words, 4),
-        kept_at(words, 5),
-        kept_at(words, 6),
-        kept_at(words, 7),
-    ];
     Store {
-        count: count as usize,
-        sheets,
+        count: words[0] as usize,
+        sheets: array::from_fn(|i| kept_at(&words, i)),
     }
 }
 
-// Word k of a sheet's bytes.
+// Word k of a sheet's bytes, the first of them the least.
 #[tactic(auto, unfolding(crate::specs::Words::packed, crate::specs::Words::pack_from))]
-fn word_at(bytes: [u8; 1024], k: usize) -> u64
+fn word_at(bytes: &[u8; 1024], k: usize) -> u64
     requires { k < 128 }
-    ensures { result ≡ packed bytes k }
+    ensures { result ≡ packed bytes.now k }
 {
-    let p = 8 * k;
-    let b = p + 1;
-    let c = b + 1;
-    let d = c + 1;
-    let e = d + 1;
-    let f = e + 1;
-    let g = f + 1;
-    let h = g + 1;
-    let low = of_byte(bytes[d])
-        + 256
-            * (of_byte(bytes[e])
-                + 256 * (of_byte(bytes[f]) + 256 * (of_byte(bytes[g]) + 256 * of_byte(bytes[h]))));
-    of_byte(bytes[p]) + 256 * (of_byte(bytes[b]) + 256 * (of_byte(bytes[c]) + 256 * low))
+    u64::from_le_bytes(array::from_fn(|i| bytes[8 * k + i]))
 }
 
-// Word p of a store.
+// Word p of a store, which is lent: handed over by value it would be copied for each word.
 #[tactic(auto, unfolding(crate::specs::Words::word_of))]
-fn word_of(store: Store, p: usize) -> u64
-    ensures { result ≡ word_of store p }
+fn word_of(store: &Store, p: usize) -> u64
+    ensures { result ≡ word_of store.now p }
 {
-    if p == 0 {
-        return store.count as u64;
+    match p {
+        0 => store.count as u64,
+        1..9 => store.sheets[p - 1].len as u64,
+        9..1033 => word_at(&store.sheets[(p - 9) / 128].bytes, (p - 9) % 128),
+        _ => 0,
     }
-    if p < 9 {
-        let t = store.sheets[p - 1];
-        return t.len as u64;
-    }
-    if p < 1033 {
-        let t = store.sheets[(p - 9) / 128];
-        let bytes = t.bytes;
-        return word_at(bytes, (p - 9) % 128);
-    }
-    0
 }
 
 // The words of a store.
-#[tactic(auto, using(words::specs::Lists::filled_none, words::specs::Lists::filled_turn, words::specs::Lists::filled_all, words::specs::Lists::length_filled, std::proofs::lemmas::Grind::common_steps), unfolding(crate::specs::Words::words_of))]
 pub fn words_of(store: Store) -> [u64; 1040]
     ensures { result ≡ words_of store }
 {
-    let mut words = [0u64; 1040];
-    let mut p = 0;
-    while p < 1040 {
-        words[p] = word_of(store, p);
-        p += 1;
-    }
-    words
+    array::from_fn(|p| word_of(&store, p))
 }
 
 // The words after an answer: those of the new store where the sheet is kept, the old ones where it is refused.
@@ -124,10 +74,8 @@ pub fn words_of(store: Store) -> [u64; 1040]
 fn next_words(words: [u64; 1040], made: Added) -> [u64; 1040]
     ensures { result ≡ next_words words made }
 {
-    let answer = made.answer;
-    let store = made.store;
-    match answer {
-        AddAnswer::Held(_) => words_of(store),
+    match made.answer {
+        AddAnswer::Held(_) => words_of(made.store),
         AddAnswer::Refused(_) => words,
     }
 }
@@ -137,9 +85,8 @@ pub fn keep_sheet(store: &mut [u64; 1040], sheet: &[u8]) -> AddAnswer
     ensures answer { result ≡ (added (store_in store.old) sheet.now).answer }
     ensures words { store.new ≡ next_words store.old (added (store_in store.old) sheet.now) }
 {
-    let words = *store;
-    let made = sheet_store::add(store_of(words), sheet);
-    *store = next_words(words, made);
+    let made = sheet_store::add(store_of(*store), sheet);
+    *store = next_words(*store, made);
     made.answer
 }
 
@@ -148,6 +95,5 @@ pub fn copy_sheet(store: &[u64; 1040], edition: usize, buffer: &mut [u8]) -> Cop
     ensures answer { result ≡ (copied (store_in store.now) edition buffer.old).answer }
     ensures buffer { buffer.new ≡ (copied (store_in store.now) edition buffer.old).buffer }
 {
-    let words = *store;
-    sheet_store::copy_out(store_of(words), edition, buffer)
+    sheet_store::copy_out(store_of(*store), edition, buffer)
 }

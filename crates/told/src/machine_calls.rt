@@ -2,62 +2,53 @@
 ghost use Rattle.std.specs.Prelude.{◌≡◌};
 ghost use Rattle.told.specs.Told.{made_as, looked_as, through_as};
 
-use crate::{Answer, refused};
-use answers::Outcome;
+use crate::Answer;
 use fixed_machine::Made;
 use machine_events::Through;
 use machine_lookup::Looked;
 
 // The rows are counted, and the value is how many bytes a row has.
-pub fn made(made: Made) -> Answer
-    ensures { result ≡ made_as made }
-{
-    match made {
-        Made::Refused(refusal) => refused(refusal),
-        Made::Rows(size) => Answer {
-            number: 0,
-            place: 0,
-            count: size.rows as u64,
-            value: size.bytes as u64,
-        },
+impl From<Made> for Answer {
+    ghost from_gives = { λ m a. a ≡ made_as m };
+
+    fn from(made: Made) -> Answer {
+        match made {
+            Made::Refused(refusal) => refusal.into(),
+            Made::Rows(size) => Answer {
+                count: size.rows as u64,
+                value: size.bytes as u64,
+                ..Answer::default()
+            },
+        }
     }
 }
 
 // The place is the next row; the verdict is the value, and the states that are left are counted.
-pub fn looked(looked: Looked) -> Answer
-    ensures { result ≡ looked_as looked }
-{
-    match looked {
-        Looked::Refused(refusal) => refused(refusal),
-        Looked::Row(stand) => Answer {
-            number: 0,
-            place: stand.row as u64,
-            count: stand.left as u64,
-            value: stand.verdict as u64,
-        },
+impl From<Looked> for Answer {
+    ghost from_gives = { λ l a. a ≡ looked_as l };
+
+    fn from(looked: Looked) -> Answer {
+        match looked {
+            Looked::Refused(refusal) => refusal.into(),
+            Looked::Row(stand) => Answer {
+                number: 0,
+                place: stand.row as u64,
+                count: u64::from(stand.left),
+                value: u64::from(stand.verdict),
+            },
+        }
     }
 }
 
 // The place is the row behind the events that were looked up, also where the next one is refused; and these are counted.
-pub fn looked_through(through: Through) -> Answer
-    ensures { result ≡ through_as through }
-{
-    let outcome = through.outcome;
-    match outcome {
-        Outcome::Refused(refusal) => {
-            let by = refused(refusal);
-            Answer {
-                number: by.number,
-                place: through.row as u64,
-                count: through.done as u64,
-                value: 0,
-            }
-        }
-        Outcome::Accepted => Answer {
-            number: 0,
+impl From<Through> for Answer {
+    ghost from_gives = { λ t a. a ≡ through_as t };
+
+    fn from(through: Through) -> Answer {
+        Answer {
             place: through.row as u64,
             count: through.done as u64,
-            value: 0,
-        },
+            ..through.outcome.into()
+        }
     }
 }

@@ -1,20 +1,10 @@
 // What is found of a neighbour's report.
 ghost use Rattle.std.specs.Prelude.{◌≡◌};
-ghost use Rattle.told.specs.Told.{which_of, failing_number, judged_as};
+ghost use Rattle.told.specs.Told.{failing_number, judged_as};
 
-use crate::{Answer, refused, stopped};
+use crate::Answer;
 use neighbour::Judged;
 use shown::Failing;
-
-// Which run: 1 keeps the rule, 2 breaks it.
-fn which(keeps: bool) -> u64
-    ensures { result ≡ which_of keeps }
-{
-    if keeps {
-        return 1;
-    }
-    2
-}
 
 // The rules of a run, in the order in which they are looked at.
 fn failing_number(failing: Failing) -> u64
@@ -29,33 +19,26 @@ fn failing_number(failing: Failing) -> u64
     }
 }
 
-// The value is 0 for a right report, 1 for a wrong run, which is counted and the place is the rule that it fails, and 2 for a wrong verdict.
-pub fn judged(answer: Judged) -> Answer
-    ensures { result ≡ judged_as answer }
-{
-    match answer {
-        Judged::Refused(refusal) => refused(refusal),
-        Judged::Stopped(stop) => stopped(stop),
-        Judged::WrongRun(fault) => {
-            let failing = fault.failing;
-            Answer {
+// The value is 0 for a right report, 1 for a wrong run, which is counted, 1 the one that keeps the rule and 2 the one that breaks it, and the place is the rule
+// of runs that it fails; and 2 for a wrong verdict.
+impl From<Judged> for Answer {
+    ghost from_gives = { λ j a. a ≡ judged_as j };
+
+    fn from(answer: Judged) -> Answer {
+        match answer {
+            Judged::Refused(refusal) => refusal.into(),
+            Judged::Stopped(stop) => stop.into(),
+            Judged::WrongRun(fault) => Answer {
                 number: 0,
-                place: failing_number(failing),
-                count: which(fault.keeps),
+                place: failing_number(fault.failing),
+                count: if fault.keeps { 1 } else { 2 },
                 value: 1,
-            }
+            },
+            Judged::Accepted => Answer::default(),
+            Judged::WrongVerdict => Answer {
+                value: 2,
+                ..Answer::default()
+            },
         }
-        Judged::Accepted => Answer {
-            number: 0,
-            place: 0,
-            count: 0,
-            value: 0,
-        },
-        Judged::WrongVerdict => Answer {
-            number: 0,
-            place: 0,
-            count: 0,
-            value: 2,
-        },
     }
 }

@@ -1,17 +1,18 @@
--- `fits`: the verdicts passed are some. Assumes nothing.
-use Rattle.std.proofs.Common.{zero-le, refl, arith, le_antisymm}
+use Rattle.std.proofs.Common.{◌≡◌, length, take, drop, get_or, ap, ◌∙◌, arith, rules, tests, get_or-drop, length-drop, length-take-le}
+use Rattle.std.proofs.lemmas.List.{get_or-take}
+use Rattle.std.proofs.lemmas.Iterator.{YieldsList-from_slice}
+use Rattle.std.proofs.lemmas.Iterator.Search.{all_from_yields_List}
 use Rattle.words.specs.Below.{all_below}
-use Rattle.day_words.specs.Words.{fits_in}
-use Rattle.day_words.specs.Laws.{all_turn}
+use Rattle.words.specs.Folds.{all_same}
+use Rattle.day_words.specs.Words.{is_verdict, fits_in}
+use Rattle.day_words.proofs.Made.{all_listed}
 use Rattle.day_words.proofs.fits.Goals as goal
-
-pub loop-k-init : goal.loop-k-init
-unfolding all_below
-loop-k-init c = (zero-le, refl)
-
-pub loop-k-preserved : goal.loop-k-preserved
-loop-k-preserved c = (omega arith, all_turn _ _ _ _ c.loop-k.invariant.1 c.is_verdict-all.ensures)
 
 pub returns : goal.returns
 unfolding fits_in
-returns c = cc (le_antisymm c.loop-k.invariant.0 c.loop-k-test.false)
+returns c =
+    let verdicts = take 64 (drop 129 c.args.words.now) in
+    let long : length verdicts ≡ 64 = length-take-le 64 (drop 129 c.args.words.now) (omega (arith, length-drop 129 c.args.words.now)) in
+    all_from_yields_List is_verdict _ _ _ c.all.ensures.ran (YieldsList-from_slice verdicts cc) (λ x b q k. search (rules, tests)) ∙ all_listed is_verdict 0 verdicts
+    ∙ ap (λ n. all_below n (λ k. is_verdict (get_or verdicts k 0))) long
+    ∙ all_same 64 _ _ (λ k h. ap is_verdict (get_or-take 64 (drop 129 c.args.words.now) k 0 h ∙ get_or-drop 129 c.args.words.now k 0))

@@ -1,17 +1,8 @@
--- `with_sheet`: the words passed are written, the others still 0. Assumes nothing.
-use Rattle.std.proofs.Common.{zero-le, refl, arith, le_antisymm}
-use Rattle.words.specs.Below.{filled}
-use Rattle.words.specs.Lists.{filled_turn, filled_all}
-use Rattle.day_words.specs.Words.{with_sheet}
+use Rattle.std.proofs.Common.{rules}
+use Rattle.day_words.specs.Words.{changed_word, with_sheet}
+use Rattle.day_words.proofs.Made.{list_made}
 use Rattle.day_words.proofs.with_sheet.Goals as goal
-
-pub loop-at-init : goal.loop-at-init
-unfolding filled
-loop-at-init c = (zero-le, refl)
-
-pub loop-at-preserved : goal.loop-at-preserved
-loop-at-preserved c = (omega arith, filled_turn _ _ _ _ _ c.loop-at.invariant.1 c.changed_word.ensures)
 
 pub returns : goal.returns
 unfolding with_sheet
-returns c = rw (← filled_all) (cc (le_antisymm c.loop-at.invariant.0 c.loop-at-test.false))
+returns c = list_made _ _ (changed_word c.args.words c.args.sheet) 0 (λ k y q call. search rules) 260 _ c.from_fn.ensures.items

@@ -1,17 +1,15 @@
--- `reading::fits`: the words passed fit.
-use Rattle.std.proofs.Common.{zero-le, refl, arith, le_antisymm}
+use Rattle.std.proofs.Common.{ℕ, get_or, ap, ◌∙◌, rules, tests}
+use Rattle.std.proofs.lemmas.Iterator.{YieldsList-from_slice}
+use Rattle.std.proofs.lemmas.Iterator.Consumers.{YieldsList-from_enumerate}
+use Rattle.std.proofs.lemmas.Iterator.Search.{all_from_yields_List}
 use Rattle.words.specs.Below.{all_below}
-use Rattle.slate.specs.Box.{fits_in}
-use Rattle.slate.specs.Laws.{all_turn}
+use Rattle.slate.specs.Box.{can_be, fits_in}
+use Rattle.slate.proofs.Made.{all_numbered}
 use Rattle.slate.proofs.reading.fits.Goals as goal
-
-pub loop-at-init : goal.loop-at-init
-unfolding all_below
-loop-at-init c = (zero-le, refl)
-
-pub loop-at-preserved : goal.loop-at-preserved
-loop-at-preserved c = (omega arith, all_turn _ _ _ _ c.loop-at.invariant.1 c.can_be-all.ensures)
 
 pub returns : goal.returns
 unfolding fits_in
-returns c = cc (le_antisymm c.loop-at.invariant.0 c.loop-at-test.false)
+returns c =
+    let w = c.args.words.now in
+    all_from_yields_List (λ (p : ℕ × ℕ). can_be p.0 p.1) _ _ _ c.all.ensures.ran (YieldsList-from_enumerate (YieldsList-from_slice w cc) cc) (λ x b q k. search (rules, tests))
+    ∙ all_numbered can_be 0 w ∙ ap (λ n. all_below n (λ p. can_be p (get_or w p 0))) c.told-words
