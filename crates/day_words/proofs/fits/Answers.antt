@@ -5,7 +5,7 @@ use Rattle.std.proofs.lemmas.Iterator.Search.{all_from_yields_List}
 use Rattle.words.specs.Below.{all_below}
 use Rattle.words.specs.Folds.{all_same}
 use Rattle.day_words.specs.Words.{is_verdict, fits_in}
-use Rattle.day_words.proofs.Made.{all_listed}
+use Rattle.words.proofs.Made.{all_listed}
 use Rattle.day_words.proofs.fits.Goals as goal
 
 pub returns : goal.returns

@@ -1,7 +1,7 @@
 use Rattle.std.proofs.Common.{refl, rules}
 use Rattle.stretches.specs.Sheet.{blank}
 use Rattle.day_words.specs.Words.{line_in, lines_in, sheet_in}
-use Rattle.day_words.proofs.Made.{list_made}
+use Rattle.words.proofs.Made.{list_made}
 use Rattle.day_words.proofs.sheet_in.Goals as goal
 
 pub returns : goal.returns

@@ -1,6 +1,6 @@
 use Rattle.std.proofs.Common.{rules}
 use Rattle.day_words.specs.Words.{changed_word, with_sheet}
-use Rattle.day_words.proofs.Made.{list_made}
+use Rattle.words.proofs.Made.{list_made}
 use Rattle.day_words.proofs.with_sheet.Goals as goal
 
 pub returns : goal.returns

@@ -1,6 +1,6 @@
 use Rattle.std.proofs.Common.{◌∙◌, arith, rules}
 use Rattle.radio_words.specs.Words.{radio_word, changed_word, with_radio}
-use Rattle.radio_words.proofs.Made.{list_made, laid_over}
+use Rattle.words.proofs.Made.{list_made, laid_over}
 use Rattle.radio_words.proofs.with_radio.Goals as goal
 
 pub returns : goal.returns

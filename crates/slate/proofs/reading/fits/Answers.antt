@@ -4,7 +4,7 @@ use Rattle.std.proofs.lemmas.Iterator.Consumers.{YieldsList-from_enumerate}
 use Rattle.std.proofs.lemmas.Iterator.Search.{all_from_yields_List}
 use Rattle.words.specs.Below.{all_below}
 use Rattle.slate.specs.Box.{can_be, fits_in}
-use Rattle.slate.proofs.Made.{all_numbered}
+use Rattle.words.proofs.Made.{all_numbered}
 use Rattle.slate.proofs.reading.fits.Goals as goal
 
 pub returns : goal.returns

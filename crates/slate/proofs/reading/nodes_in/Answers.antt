@@ -1,7 +1,7 @@
 use Rattle.std.proofs.Common.{rules}
 use Rattle.syntax.specs.Value.{blank}
 use Rattle.slate.specs.Box.{node_in, nodes_in}
-use Rattle.slate.proofs.Made.{list_made}
+use Rattle.words.proofs.Made.{list_made}
 use Rattle.slate.proofs.reading.nodes_in.Goals as goal
 
 pub returns : goal.returns

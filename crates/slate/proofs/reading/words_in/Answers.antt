@@ -1,6 +1,6 @@
 use Rattle.std.proofs.Common.{ℕ, ◌+◌, get_or, rules}
 use Rattle.slate.specs.Box.{words_in}
-use Rattle.slate.proofs.Made.{list_made}
+use Rattle.words.proofs.Made.{list_made}
 use Rattle.slate.proofs.reading.words_in.Goals as goal
 
 pub returns : goal.returns

@@ -1,6 +1,6 @@
 use Rattle.std.proofs.Common.{rules}
 use Rattle.slate.specs.Box.{held_word, stored_of}
-use Rattle.slate.proofs.Made.{list_made}
+use Rattle.words.proofs.Made.{list_made}
 use Rattle.slate.proofs.writing.stored.Goals as goal
 
 pub returns : goal.returns

@@ -1,6 +1,6 @@
 use Rattle.std.proofs.Common.{◌∙◌, arith, rules}
 use Rattle.slate.specs.Box.{monitor_word, changed_word, with_monitor}
-use Rattle.slate.proofs.Made.{list_made, laid_over}
+use Rattle.words.proofs.Made.{list_made, laid_over}
 use Rattle.slate.proofs.writing.with_monitor.Goals as goal
 
 pub returns : goal.returns
