@@ -31,8 +31,8 @@ use Rattle.syntax.specs.Value.{rule_of, empty_rule, held, count}
 use Rattle.syntax.specs.Grammar.{longest_rule}
 use Rattle.reader.specs.Draft as reader
 use Rattle.rule_text.specs.declared.RuleRead.{RuleRead}
-use Rattle.rule_text.specs.declared.Found.{Found}
-use Rattle.rule_text.specs.declared.Found.TheVariants.{At, Nowhere}
+use Rattle.std.specs.Prelude.{Option}
+use Rattle.std.specs.Prelude.{Some, None}
 use Rattle.rule_text.specs.Reading.{no_rule, accepted, unknown_at, of_found, of_scan, of_table, rule_read}
 use Rattle.rule_value.specs.Valid.{RuleValue}
 use Rattle.rule_text.specs.Paper.{Beside}
@@ -163,9 +163,9 @@ by_scan : (c : Scan) (x : RuleRead) → Answer x → Answer (of_scan x c)
 by_scan Good x a = a
 by_scan (Bad i) x a = refuses RuleText i
 
-by_name : (n : Found) (x : RuleRead) → Answer x → Answer (of_found x n)
-by_name (At i) x a = refuses Proposition i
-by_name Nowhere x a = a
+by_name : (n : Option ℕ) (x : RuleRead) → Answer x → Answer (of_found x n)
+by_name (Some i) x a = refuses Proposition i
+by_name None x a = a
 
 pub answer : (p : Plant) (fair label next s : List ℕ) → Answer (rule_read p fair label next s)
 answer p fair label next s = by_table (table_outcome p fair label next) _ (either (ltb longest_rule (length s)) _ _ (refuses RuleLength longest_rule) (by_scan (scan s) _ (by_name (unknown_at p.props 0 s) _

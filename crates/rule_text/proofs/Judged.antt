@@ -20,8 +20,8 @@ use Rattle.syntax.proofs.Place.{scanned}
 use Rattle.syntax.proofs.Values.{parts_held}
 use Rattle.reader.specs.Draft.{written}
 use Rattle.reader.proofs.Written.{written_rule, written_over}
-use Rattle.rule_text.specs.declared.Found.{Found}
-use Rattle.rule_text.specs.declared.Found.TheVariants.{At, Nowhere}
+use Rattle.std.specs.Prelude.{Option}
+use Rattle.std.specs.Prelude.{Some, None}
 use Rattle.rule_text.specs.Reading.{no_rule, accepted, unknown_at, limited, text_read}
 use Rattle.rule_text.specs.Checks.{limited_long, limited_many, limited_fine, named_unknown, named_fine, read_long, read_bad, read_good_lem}
 use Rattle.rule_text.specs.Known.{below_exactly, first_unknown, none_unknown}
@@ -65,9 +65,9 @@ module _ (q : ℕ) (s : List ℕ) where
       pub reads_unknown : (k : ℕ) → Unknown q s k → text_read s q ≡ no_rule Proposition k
       reads_unknown k u = go (unknown_at q 0 s) refl
         where
-          go : (x : Found) → unknown_at q 0 s ≡ x → text_read s q ≡ no_rule Proposition k
-          go Nowhere e = absurd (omega (arith, u.beyond, none_unknown q s 0 e k u.which u.here))
-          go (At m) e = read_good_lem s q short (good says) ∙ named_unknown s q m e ∙ ap (no_rule Proposition) (one_unknown q s m k (first_unknown q some s m e) u)
+          go : (x : Option ℕ) → unknown_at q 0 s ≡ x → text_read s q ≡ no_rule Proposition k
+          go None e = absurd (omega (arith, u.beyond, none_unknown q s 0 e k u.which u.here))
+          go (Some m) e = read_good_lem s q short (good says) ∙ named_unknown s q m e ∙ ap (no_rule Proposition) (one_unknown q s m k (first_unknown q some s m e) u)
 
     module _ {f : Formula} (says : SaidBy f s) (below : Below q f) where
       reads_known : text_read s q ≡ limited (written empty_rule (postfix f))
@@ -99,9 +99,9 @@ judged q some s = on_length (ltb longest_rule (length s)) refl
     on_limits h f says below false true e d = too_many f h says below (ltb-false most_nodes (size f) e) (ltb-true most_parts (parts f) d)
     on_limits h f says below false false e d = a_rule f h says below (ltb-false most_nodes (size f) e) (ltb-false most_parts (parts f) d)
 
-    on_names : length s ≤ longest_rule → (f : Formula) → SaidBy f s → (x : Found) → unknown_at q 0 s ≡ x → Judged q s
-    on_names h f says (At k) e = unknown_name f k h says (first_unknown q some s k e)
-    on_names h f says Nowhere e = on_limits h f says ((below_exactly q says).0 e) (ltb most_nodes (size f)) (ltb most_parts (parts f)) refl refl
+    on_names : length s ≤ longest_rule → (f : Formula) → SaidBy f s → (x : Option ℕ) → unknown_at q 0 s ≡ x → Judged q s
+    on_names h f says (Some k) e = unknown_name f k h says (first_unknown q some s k e)
+    on_names h f says None e = on_limits h f says ((below_exactly q says).0 e) (ltb most_nodes (size f)) (ltb most_parts (parts f)) refl refl
 
     on_scan : length s ≤ longest_rule → (x : Scan) → scan s ≡ x → Judged q s
     on_scan h Good e = let y : (f : Formula) × SaidBy f s = rw e at (scanned s) in on_names h y.0 y.1 (unknown_at q 0 s) refl

@@ -17,7 +17,7 @@ use Rattle.syntax.specs.Value.{empty_rule, held, count}
 use Rattle.syntax.proofs.Places.{byte, at_end_lem}
 use Rattle.syntax.specs.Grammar.{longest_rule}
 use Rattle.reader.specs.Draft.{written}
-use Rattle.rule_text.specs.declared.Found.TheVariants.{At, Nowhere}
+use Rattle.std.specs.Prelude.{Some, None}
 use Rattle.rule_text.specs.Reading.{no_rule, accepted, unknown, unknown_at, limited, of_found, named, of_scan, text_read, of_table, rule_read}
 
 module _ (q : ℕ) (s : List ℕ) (i : ℕ) where
@@ -36,11 +36,11 @@ module _ (q : ℕ) (s : List ℕ) (i : ℕ) where
   pub unknown_name : i + 1 < length s → get_or s i 0 ≡ 112 → leb q (name_of (drop (i + 1) s)) ≡ unknown q (get_or s i 0) (drop (i + 1) s)
   unknown_name h e = sym (unknown_next h ∙ ap (λ b. b && leb q (name_of (drop (i + 1) s))) (eq-eqb _ _ e))
 
-  pub unknown_turn : i < length s → unknown_at q i (drop i s) ≡ cond (unknown q (get_or s i 0) (drop (i + 1) s)) (At i) (unknown_at q (i + 1) (drop (i + 1) s))
+  pub unknown_turn : i < length s → unknown_at q i (drop i s) ≡ cond (unknown q (get_or s i 0) (drop (i + 1) s)) (Some i) (unknown_at q (i + 1) (drop (i + 1) s))
   unfolding unknown_at
   unknown_turn h = ap (unknown_at q i) (byte s i h)
 
-  pub unknown_none : i ≤ length s → length s ≤ i → unknown_at q i (drop i s) ≡ Nowhere
+  pub unknown_none : i ≤ length s → length s ≤ i → unknown_at q i (drop i s) ≡ None
   unfolding unknown_at
   unknown_none h g = ap (unknown_at q i) (at_end_lem s i h g)
 
@@ -55,10 +55,10 @@ module _ (r : Rule) where
   limited_fine h g = simp (le-ltb most_nodes r.len h, le-ltb most_parts (count (held r)) g)
 
 module _ (s : List ℕ) (q : ℕ) where
-  pub named_unknown : (k : ℕ) → unknown_at q 0 s ≡ At k → named s q ≡ no_rule Proposition k
+  pub named_unknown : (k : ℕ) → unknown_at q 0 s ≡ Some k → named s q ≡ no_rule Proposition k
   named_unknown k e = ap (of_found (limited (written empty_rule (parse s)))) e
 
-  pub named_fine : unknown_at q 0 s ≡ Nowhere → named s q ≡ limited (written empty_rule (parse s))
+  pub named_fine : unknown_at q 0 s ≡ None → named s q ≡ limited (written empty_rule (parse s))
   named_fine e = ap (of_found (limited (written empty_rule (parse s)))) e
 
   pub read_long : longest_rule < length s → text_read s q ≡ no_rule RuleLength longest_rule

@@ -21,8 +21,8 @@ use Rattle.syntax.specs.Bytes.{name_of}
 use Rattle.syntax.specs.Print.{Below}
 use Rattle.syntax.proofs.Lexing.{by_digits, spelt_one, spelt_two, Ends, name_is, Apart, off_ends, text_apart, both_true}
 use Rattle.syntax.proofs.Named.{Begins, spell_some, name_stands, name_longest}
-use Rattle.rule_text.specs.declared.Found.{Found}
-use Rattle.rule_text.specs.declared.Found.TheVariants.{At, Nowhere}
+use Rattle.std.specs.Prelude.{Option}
+use Rattle.std.specs.Prelude.{Some, None}
 use Rattle.rule_text.specs.Reading.{unknown, unknown_at}
 
 -- a token is no proposition from q on
@@ -116,40 +116,40 @@ module _ (q : ℕ) where
 
   over_byte : (i b : ℕ) → (b ≡ 112 → ⊥) → (s : List ℕ) → unknown_at q i (b ∷ s) ≡ unknown_at q (i + 1) s
   unfolding unknown_at
-  over_byte i b h s = ap (λ x. cond x (At i) (unknown_at q (i + 1) s)) (small b h s)
+  over_byte i b h s = ap (λ x. cond x (Some i) (unknown_at q (i + 1) s)) (small b h s)
 
   -- a proposition is the answer, or is passed
-  at_prop : (i k : ℕ) → k < names → (s : List ℕ) → Ends s → unknown_at q i (112 ∷ (spell k ++ s)) ≡ cond (leb q k) (At i) (unknown_at q (i + 1 + length (spell k)) s)
+  at_prop : (i k : ℕ) → k < names → (s : List ℕ) → Ends s → unknown_at q i (112 ∷ (spell k ++ s)) ≡ cond (leb q k) (Some i) (unknown_at q (i + 1 + length (spell k)) s)
   unfolding unknown_at unknown
-  at_prop i k h s e = by_digits {P = λ k. unknown_at q i (112 ∷ (spell k ++ s)) ≡ cond (leb q k) (At i) (unknown_at q (i + 1 + length (spell k)) s)} one two k h
+  at_prop i k h s e = by_digits {P = λ k. unknown_at q i (112 ∷ (spell k ++ s)) ≡ cond (leb q k) (Some i) (unknown_at q (i + 1 + length (spell k)) s)} one two k h
     where
-      one : (k : ℕ) → k < 10 → unknown_at q i (112 ∷ (spell k ++ s)) ≡ cond (leb q k) (At i) (unknown_at q (i + 1 + length (spell k)) s)
+      one : (k : ℕ) → k < 10 → unknown_at q i (112 ∷ (spell k ++ s)) ≡ cond (leb q k) (Some i) (unknown_at q (i + 1 + length (spell k)) s)
       one k l =
           let n : name_of ((48 + k) ∷ s) ≡ k = rw (spelt_one k l) at (name_is k (omega arith) s (λ o. e)).0 in
-          rw (spelt_one k l, n) (ap (cond (leb q k) (At i)) (over_byte (i + 1) (48 + k) (λ e. omega arith) s))
+          rw (spelt_one k l, n) (ap (cond (leb q k) (Some i)) (over_byte (i + 1) (48 + k) (λ e. omega arith) s))
 
-      two : (k : ℕ) → 10 + k < names → unknown_at q i (112 ∷ (spell (10 + k) ++ s)) ≡ cond (leb q (10 + k)) (At i) (unknown_at q (i + 1 + length (spell (10 + k))) s)
+      two : (k : ℕ) → 10 + k < names → unknown_at q i (112 ∷ (spell (10 + k) ++ s)) ≡ cond (leb q (10 + k)) (Some i) (unknown_at q (i + 1 + length (spell (10 + k))) s)
       two k l =
           let n : name_of (49 ∷ (48 + k) ∷ s) ≡ 10 + k = rw (spelt_two k l) at (name_is (10 + k) l s (λ o. e)).0 in
           let d : i + 1 + 1 + 1 ≡ i + 1 + 2 = omega arith in
           rw (spelt_two k l, n)
-          (ap (cond (leb q (10 + k)) (At i)) (over_byte (i + 1) 49 (λ e. omega arith) ((48 + k) ∷ s) ∙ over_byte (i + 1 + 1) (48 + k) (λ e. omega arith) s ∙ ap (λ j. unknown_at q j s) d))
+          (ap (cond (leb q (10 + k)) (Some i)) (over_byte (i + 1) 49 (λ e. omega arith) ((48 + k) ∷ s) ∙ over_byte (i + 1 + 1) (48 + k) (λ e. omega arith) s ∙ ap (λ j. unknown_at q j s) d))
 
   -- the same answer, with a token before
-  passed : {x y : Found} {A : Type 0} → x ≡ y → (y ≡ Nowhere) ↔ A → (x ≡ Nowhere) ↔ (Unit {0} × A)
+  passed : {x y : Option ℕ} {A : Type 0} → x ≡ y → (y ≡ None) ↔ A → (x ≡ None) ↔ (Unit {0} × A)
   passed e a = (λ h. (tt, a.0 (sym e ∙ h)), λ h. e ∙ a.1 h.1)
 
-  met : (i k : ℕ) {x y : Found} {A : Type 0} → x ≡ cond (leb q k) (At i) y → (y ≡ Nowhere) ↔ A → (x ≡ Nowhere) ↔ ((k < q) × A)
-  met i k {x} {y} {A} e a = (λ h. go (leb q k) refl (sym e ∙ h), λ h. e ∙ ap (λ b. cond b (At i) y) (lt-leb q k h.0) ∙ a.1 h.1)
+  met : (i k : ℕ) {x y : Option ℕ} {A : Type 0} → x ≡ cond (leb q k) (Some i) y → (y ≡ None) ↔ A → (x ≡ None) ↔ ((k < q) × A)
+  met i k {x} {y} {A} e a = (λ h. go (leb q k) refl (sym e ∙ h), λ h. e ∙ ap (λ b. cond b (Some i) y) (lt-leb q k h.0) ∙ a.1 h.1)
     where
-      go : (b : Bool) → leb q k ≡ b → cond b (At i) y ≡ Nowhere → (k < q) × A
+      go : (b : Bool) → leb q k ≡ b → cond b (Some i) y ≡ None → (k < q) × A
       go true t h = let z : ◌≡◌ {A = ℕ} 0 1 = cc in absurd (omega arith)
       go false t h = (leb-false q k t, a.0 h)
 
-  byte_passed : (b : ℕ) → (b ≡ 112 → ⊥) → (i : ℕ) (s : List ℕ) {A : Type 0} → (unknown_at q (i + 1) s ≡ Nowhere) ↔ A → (unknown_at q i (b ∷ s) ≡ Nowhere) ↔ (Unit {0} × A)
+  byte_passed : (b : ℕ) → (b ≡ 112 → ⊥) → (i : ℕ) (s : List ℕ) {A : Type 0} → (unknown_at q (i + 1) s ≡ None) ↔ A → (unknown_at q i (b ∷ s) ≡ None) ↔ (Unit {0} × A)
   byte_passed b h i s a = passed (over_byte i b h s) a
 
-  none_exactly : {ts : List Token} {s : List ℕ} → Apart ts → Spells ts s → (i : ℕ) → (unknown_at q i s ≡ Nowhere) ↔ All q ts
+  none_exactly : {ts : List Token} {s : List ℕ} → Apart ts → Spells ts s → (i : ℕ) → (unknown_at q i s ≡ None) ↔ All q ts
   unfolding All unknown_at Apart
   none_exactly a end i = (λ h. tt, λ h. refl)
   none_exactly a (space {s = s} r) i = let e = over_byte i 32 (λ e. omega arith) s in let x = none_exactly a r (i + 1) in (λ h. x.0 (sym e ∙ h), λ h. e ∙ x.1 h)
@@ -168,7 +168,7 @@ module _ (q : ℕ) where
   none_exactly a (token {s = s} sp_arrow r) i = passed (over_byte i 45 (λ e. omega arith) (62 ∷ s) ∙ over_byte (i + 1) 62 (λ e. omega arith) s) (none_exactly a r (i + 1 + 1))
   none_exactly a (token {s = s} (sp_prop k h) r) i = met i k (at_prop i k h s (off_ends a.0 r)) (none_exactly a.1 r (i + 1 + length (spell k)))
 
-  pub below_exactly : {f : Formula} {s : List ℕ} → SaidBy f s → (unknown_at q 0 s ≡ Nowhere) ↔ Below q f
+  pub below_exactly : {f : Formula} {s : List ℕ} → SaidBy f s → (unknown_at q 0 s ≡ None) ↔ Below q f
   below_exactly r =
       let a = none_exactly (text_apart r.text) r.spells 0 in
       let b = text_below r.text in
@@ -218,25 +218,25 @@ module _ (q : ℕ) where
   sooner b s k j n = record { stands = n.stands; longest = n.longest }
 
   -- where none is found, none is
-  pub none_unknown : (s : List ℕ) (i : ℕ) → unknown_at q i s ≡ Nowhere → (k j : ℕ) → Names s k j → j < q
+  pub none_unknown : (s : List ℕ) (i : ℕ) → unknown_at q i s ≡ None → (k j : ℕ) → Names s k j → j < q
   unfolding unknown_at
   none_unknown [] i h k j n = let (l, rest, e) = n.stands in absurd (omega (arith, ap length (sym (drop-nil k) ∙ e)))
   none_unknown (b ∷ s) i h k j n = go (unknown q b s) refl h k n (λ g m x. none_unknown s (i + 1) g m j x)
     where
-      go : (t : Bool) → unknown q b s ≡ t → cond t (At i) (unknown_at q (i + 1) s) ≡ Nowhere → (m : ℕ) → Names (b ∷ s) m j
-          → (unknown_at q (i + 1) s ≡ Nowhere → (l : ℕ) → Names s l j → j < q) → j < q
+      go : (t : Bool) → unknown q b s ≡ t → cond t (Some i) (unknown_at q (i + 1) s) ≡ None → (m : ℕ) → Names (b ∷ s) m j
+          → (unknown_at q (i + 1) s ≡ None → (l : ℕ) → Names s l j → j < q) → j < q
       go true e g m x r = let z : ◌≡◌ {A = ℕ} 0 1 = cc in absurd (omega arith)
       go false e g zero x r = not_here b s e j x
       go false e g (suc l) x r = r g l (sooner b s l j x)
 
   -- where one is found, it is the first
-  found_first : 1 ≤ q → (s : List ℕ) (i k : ℕ) → unknown_at q i s ≡ At k → (m : ℕ) × (k ≡ i + m) × Unknown q s m
+  found_first : 1 ≤ q → (s : List ℕ) (i k : ℕ) → unknown_at q i s ≡ Some k → (m : ℕ) × (k ≡ i + m) × Unknown q s m
   unfolding unknown_at
   found_first some [] i k h = let z : ◌≡◌ {A = ℕ} 0 1 = cc in absurd (omega arith)
   found_first some (b ∷ s) i k h = go (unknown q b s) refl h (λ g. found_first some s (i + 1) k g)
     where
-      go : (t : Bool) → unknown q b s ≡ t → cond t (At i) (unknown_at q (i + 1) s) ≡ At k
-          → (unknown_at q (i + 1) s ≡ At k → (m : ℕ) × (k ≡ i + 1 + m) × Unknown q s m) → (m : ℕ) × (k ≡ i + m) × Unknown q (b ∷ s) m
+      go : (t : Bool) → unknown q b s ≡ t → cond t (Some i) (unknown_at q (i + 1) s) ≡ Some k
+          → (unknown_at q (i + 1) s ≡ Some k → (m : ℕ) × (k ≡ i + 1 + m) × Unknown q s m) → (m : ℕ) × (k ≡ i + m) × Unknown q (b ∷ s) m
       go true e g r =
           let x = met_here some b s e in
           let at : i ≡ k = cc in
@@ -250,5 +250,5 @@ module _ (q : ℕ) where
           first_of_lem e u zero j lt n = not_here b s e j n
           first_of_lem e u (suc l) j lt n = u.before l j (omega arith) (sooner b s l j n)
 
-  pub first_unknown : 1 ≤ q → (s : List ℕ) (k : ℕ) → unknown_at q 0 s ≡ At k → Unknown q s k
+  pub first_unknown : 1 ≤ q → (s : List ℕ) (k : ℕ) → unknown_at q 0 s ≡ Some k → Unknown q s k
   first_unknown some s k h = let x = found_first some s 0 k h in subst (λ n. Unknown q s n) (sym (x.1 ∙ omega arith)) x.2

@@ -18,8 +18,8 @@ use Rattle.syntax.specs.Value.{empty_rule, held, count}
 use Rattle.syntax.specs.Grammar.{longest_rule}
 use Rattle.reader.specs.Draft.{written}
 use Rattle.rule_text.specs.declared.RuleRead.{RuleRead}
-use Rattle.rule_text.specs.declared.Found.{Found}
-use Rattle.rule_text.specs.declared.Found.TheVariants.{At, Nowhere}
+use Rattle.std.specs.Prelude.{Option}
+use Rattle.std.specs.Prelude.{Some, None}
 
 -- a refusal, and beside it the value with no node
 abbrev pub no_rule : Kind → ℕ → RuleRead
@@ -35,18 +35,18 @@ unknown q b [] = false
 unknown q b (d ∷ s) = eqb b 112 && leb q (name_of (d ∷ s))
 
 -- the first such `p` of a text that stands from place i on
-unfoldable pub unknown_at : ℕ → ℕ → List ℕ → Found
-unknown_at q i [] = Nowhere
-unknown_at q i (b ∷ s) = cond (unknown q b s) (At i) (unknown_at q (i + 1) s)
+unfoldable pub unknown_at : ℕ → ℕ → List ℕ → Option ℕ
+unknown_at q i [] = None
+unknown_at q i (b ∷ s) = cond (unknown q b s) (Some i) (unknown_at q (i + 1) s)
 
 -- 7 and 8
 abbrev pub limited : Rule → RuleRead
 limited r = cond (ltb most_nodes r.len) (no_rule Nodes 0) (cond (ltb most_parts (count (held r))) (no_rule Parts 0) (accepted r))
 
 -- 6
-abbrev pub of_found : RuleRead → Found → RuleRead
-of_found r (At k) = no_rule Proposition k
-of_found r Nowhere = r
+abbrev pub of_found : RuleRead → Option ℕ → RuleRead
+of_found r (Some k) = no_rule Proposition k
+of_found r None = r
 
 -- what a text of the grammar is answered, for q propositions
 abbrev pub named : List ℕ → ℕ → RuleRead

@@ -26,13 +26,6 @@ impl RuleRead {
     }
 }
 
-// Where a text has a proposition that the table has not.
-#[derive(Clone, Copy)]
-pub enum Found {
-    At(usize),
-    Nowhere,
-}
-
 // Whether a `p` stands at `at` whose number is not below `props`.
 #[tactic(auto, using(crate::specs::Checks::unknown_end, crate::specs::Checks::unknown_other, crate::specs::Checks::unknown_name))]
 fn is_unknown(text: &[u8], at: usize, props: usize) -> bool
@@ -47,15 +40,15 @@ fn is_unknown(text: &[u8], at: usize, props: usize) -> bool
 
 // The first such place.
 #[tactic(auto, using(crate::specs::Checks::unknown_turn, crate::specs::Checks::unknown_none))]
-fn unknown_at(text: &[u8], props: usize) -> Found
+fn unknown_at(text: &[u8], props: usize) -> Option<usize>
     ensures { result ≡ unknown_at props 0 text.now }
 {
     for at in 0..text.len() {
         if is_unknown(text, at, props) {
-            return Found::At(at);
+            return Some(at);
         }
     }
-    Found::Nowhere
+    None
 }
 
 // 7 and 8.
@@ -79,8 +72,8 @@ fn read_good(text: &[u8], props: usize) -> RuleRead
     ensures { result ≡ named text.now props }
 {
     match unknown_at(text, props) {
-        Found::At(place) => RuleRead::refused(Kind::Proposition, place),
-        Found::Nowhere => within_limits(reader::parse_rule(text)),
+        Some(place) => RuleRead::refused(Kind::Proposition, place),
+        None => within_limits(reader::parse_rule(text)),
     }
 }
 
