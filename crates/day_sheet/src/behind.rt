@@ -85,5 +85,5 @@ pub fn sheet_after(
     let number = number_of(event.num, monitor.expected);
     let gap = missing(monitor.seen, monitor.expected, number);
     let day = caught_up(label, next, rule, live, monitor, sheet, number - gap, gap);
-    noted(day, event.new | !monitor.seen, number, verdict)
+    noted(day, event.new || !monitor.seen, number, verdict)
 }

@@ -12,8 +12,5 @@ use Rattle.shown.proofs.positions.agree.Goals as goal
 pub returns : goal.returns
 unfolding agree_of
 returns c =
-    let long = length c.args.log.now in
-    let test = agree_at c.args.label.now c.args.run.now c.args.stem (event_at (width_of c.args.props) c.args.log.now) in
-    let n = long / c.line_bytes.result in
-    all_from_yields_List test _ _ _ c.all.ensures.ran (YieldsList-from_range 0 n n refl (omega arith)) (λ x b q k. search (rules, tests))
-    ∙ all_range n test ∙ ap (λ (k : ℕ). all_below (long / k) test) c.line_bytes.ensures
+    all_from_yields_List (agree_at c.args.label.now c.args.run.now c.args.stem (event_at (width_of c.args.props) c.args.log.now)) _ _ _ c.all.ensures.ran (YieldsList-from_range 0 (length c.args.log.now / c.line_bytes.result) (length c.args.log.now / c.line_bytes.result) refl (omega arith)) (λ x b q k. search (rules, tests))
+    ∙ all_range (length c.args.log.now / c.line_bytes.result) (agree_at c.args.label.now c.args.run.now c.args.stem (event_at (width_of c.args.props) c.args.log.now)) ∙ ap (λ (k : ℕ). all_below (length c.args.log.now / k) (agree_at c.args.label.now c.args.run.now c.args.stem (event_at (width_of c.args.props) c.args.log.now))) c.line_bytes.ensures
