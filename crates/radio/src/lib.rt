@@ -193,7 +193,7 @@ pub fn listen(
         };
     }
     let first = piece(clean, scrap, plant.props);
-    if first.whole || first.took < scrap.len() {
+    if first.whole | (first.took < scrap.len()) {
         return hear_lines(plant, fair, label, next, rule, live, radio, scrap, verdicts);
     }
     Went {

@@ -1,5 +1,5 @@
 -- `listen`: a scrap that ends no line is one piece, and any other is heard by its lines. Assumes nothing.
-use Rattle.std.proofs.Common.{◌<◌, rules, refl, length, le-ltb}
+use Rattle.std.proofs.Common.{◌<◌, rules, length}
 use Rattle.text.specs.Number.{width_of, width_between}
 use Rattle.monitor.specs.Calls.{step_call}
 use Rattle.radio.proofs.Ending.{clean_fit}
@@ -22,4 +22,4 @@ returns c =
     let a = c.args in
     let some : 0 < length a.scrap.now = search rules in
     quiet_piece (width_of a.plant.props) (step_call a.plant a.fair.now a.label.now a.next.now a.rule a.live) (width_between a.plant.props).1 a.scrap.now
-    c.requires.1 c.clean-clean.ensures a.verdicts.now some c.piece-first.ensures (rw (c.if-first.false, le-ltb _ _ c.if-first-scrap.false) refl)
+    c.requires.1 c.clean-clean.ensures a.verdicts.now some c.piece-first.ensures c.if-first-scrap.false
