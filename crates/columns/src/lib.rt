@@ -21,13 +21,11 @@ const VALS: [u16; 27] = [
 pub fn count(props: usize) -> usize
     ensures { result ≡ count_of props }
 {
-    if props == 1 {
-        return 6;
+    match props {
+        1 => 6,
+        2 => 18,
+        _ => 54,
     }
-    if props == 2 {
-        return 18;
-    }
-    54
 }
 
 // The event of a column, with the number that is expected.

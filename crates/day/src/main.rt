@@ -6,17 +6,18 @@ ghost use Rattle.std.specs.Prelude.{◌≤◌, length};
 
 use answers::{Kind, Outcome, Refusal};
 use closing::{Closed, ClosingVerdict};
-use controller::Stop;
 use day_writer::{Length, Wrote, write_sheet};
 use files::File;
 use minutes::note_texts;
-use plant::TableRead;
 use program::said::{put, refuse};
 use settings::{Asked, SheetRefusal, ask, value_of};
 use sheet::Key;
 use std::rt::Files;
 use stretches::DaySheet;
 use transcript::texts;
+
+// A sheet may have 1,024 bytes; of a longer one so much is read that the sheets' own check tells it.
+const SHEET: usize = 1025;
 
 // The folder that the argument names, or this one.
 fn main(rt: HostRuntime) {
@@ -29,36 +30,38 @@ fn main(rt: HostRuntime) {
 fn with_folder<R: Files + Print>(rt: &R, folder: &[u8]) {
     let mut plant = [0u8; File::PLANT];
     let file = files::read_in(rt, folder, b"plant.txt", &mut plant);
-    let len = file.len;
-    let read: TableRead = texts::read_plant(file.ok, &plant[..len]);
-    let outcome = read.outcome;
-    match outcome {
+    let text = &plant[..file.len];
+    match texts::read_plant(file.ok, text).outcome {
         Outcome::Refused(refusal) => refuse(rt, refusal),
-        Outcome::Accepted => with_plant(rt, folder, &plant[..len]),
+        Outcome::Accepted => with_plant(rt, folder, text),
     }
 }
 
-// A sheet may have 1,024 bytes; of a longer one so much is read that the sheets' own check tells it.
+// Both sheets, by 14.
 fn with_plant<R: Files + Print>(rt: &R, folder: &[u8], plant: &[u8]) {
-    let mut local = [0u8; 1025];
-    let own = files::read_in(rt, folder, b"local.txt", &mut local);
-    let many = own.len;
-    if !is_there(own) {
-        refuse(rt, Refusal::at(Kind::File, 0));
-        return;
+    let mut local = [0u8; SHEET];
+    let mut shared = [0u8; SHEET];
+    let local = sheet_in(rt, folder, b"local.txt", &mut local);
+    let shared = sheet_in(rt, folder, b"shared.txt", &mut shared);
+    match (local, shared) {
+        (Some(local), Some(shared)) => with_sheets(rt, folder, plant, local, shared),
+        _ => refuse(rt, Refusal::at(Kind::File, 0)),
     }
-    let mut shared = [0u8; 1025];
-    let common = files::read_in(rt, folder, b"shared.txt", &mut shared);
-    let more = common.len;
-    if !is_there(common) {
-        refuse(rt, Refusal::at(Kind::File, 0));
-        return;
-    }
-    with_sheets(rt, folder, plant, &local[..many], &shared[..more]);
 }
 
-fn is_there(file: File) -> bool {
-    file.ok | (1024 < file.len)
+// The text of a sheet, if it is there.
+fn sheet_in<'a, R: Files>(
+    rt: &R,
+    folder: &[u8],
+    name: &[u8],
+    room: &'a mut [u8],
+) -> Option<&'a [u8]> {
+    let file = files::read_in(rt, folder, name, room);
+    if file.ok || 1024 < file.len {
+        Some(&room[..file.len])
+    } else {
+        None
+    }
 }
 
 // The rule, and then the edition of the closing verdicts.
@@ -96,9 +99,7 @@ fn with_settings<R: Files + Print>(
     rule: &[u8],
     closing: &[u8],
 ) {
-    let opened = opened::open_texts(plant, rule);
-    let outcome = opened.outcome;
-    match outcome {
+    match opened::open_texts(plant, rule).outcome {
         Outcome::Refused(refusal) => refuse(rt, refusal),
         Outcome::Accepted => with_rule(rt, folder, plant, rule, edition_of(closing)),
     }
@@ -107,22 +108,19 @@ fn with_settings<R: Files + Print>(
 fn with_rule<R: Files + Print>(rt: &R, folder: &[u8], plant: &[u8], rule: &[u8], edition: u64) {
     let mut log = [0u8; File::LOG];
     let file = files::read_in(rt, folder, b"log.txt", &mut log);
-    let len = file.len;
-    if !file.ok {
+    if file.ok {
+        with_log(rt, plant, rule, &log[..file.len], edition);
+    } else {
         refuse(rt, Refusal::at(Kind::File, 0));
-        return;
     }
-    with_log(rt, plant, rule, &log[..len], edition);
 }
 
 // The log by 12, and its events by 10, 16 and 23.
 fn with_log<P: Print>(to: &P, plant: &[u8], rule: &[u8], log: &[u8], edition: u64) {
     let minutes = note_texts(plant, rule, log);
-    let outcome = minutes.outcome;
-    let sheet = minutes.sheet;
-    match outcome {
+    match minutes.outcome {
         Outcome::Refused(refusal) => refuse(to, refusal),
-        Outcome::Accepted => with_day(to, plant, rule, log, edition, sheet),
+        Outcome::Accepted => with_day(to, plant, rule, log, edition, minutes.sheet),
     }
 }
 
@@ -135,10 +133,10 @@ fn with_day<P: Print>(
     edition: u64,
     sheet: DaySheet,
 ) {
-    let closed = closing::close_log(plant, rule, log, edition);
-    match closed {
+    match closing::close_log(plant, rule, log, edition) {
         Closed::Refused(refusal) => refuse(to, refusal),
-        Closed::Stopped(stop) => refuse_event(to, stop),
+        // An event is refused at the offset of its line.
+        Closed::Stopped(stop) => refuse(to, stop.refusal),
         Closed::At(verdict) => {
             show_sheet(to, sheet);
             show_verdict(to, verdict);
@@ -164,10 +162,10 @@ fn show_text<P: Print>(to: &P, text: &[u8], written: Length)
 
 // The edition that one digit names. Two digits name none that there is, so which of them it is does not matter.
 fn edition_of(digits: &[u8]) -> u64 {
-    if digits.len() != 1 {
-        return 99;
+    match digits {
+        [digit] => u64::from(digit % 16),
+        _ => 99,
     }
-    (digits[0] % 16) as u64
 }
 
 fn show_verdict<P: Print>(to: &P, verdict: ClosingVerdict) {
@@ -181,21 +179,12 @@ fn show_verdict<P: Print>(to: &P, verdict: ClosingVerdict) {
     }
 }
 
-// An event is refused at the offset of its line.
-fn refuse_event<P: Print>(to: &P, stop: Stop) {
-    let refusal = stop.refusal;
-    refuse(to, refusal);
-}
-
 // The sheet that is refused stands before the refusal, and else the key that neither has.
 fn refuse_sheet<P: Print>(to: &P, refusal: SheetRefusal, key: &[u8]) {
-    let kind = refusal.kind;
-    if refusal.sheet == 1 {
-        put(to, b"local ");
-    } else if refusal.sheet == 2 {
-        put(to, b"shared ");
-    } else {
-        put(to, key);
+    match refusal.sheet {
+        1 => put(to, b"local "),
+        2 => put(to, b"shared "),
+        _ => put(to, key),
     }
-    refuse(to, Refusal::at(kind, refusal.place));
+    refuse(to, Refusal::at(refusal.kind, refusal.place));
 }

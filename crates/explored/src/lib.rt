@@ -16,50 +16,49 @@ use answers::Lamp;
 use narrowed::narrowed;
 use pairs::Pairs;
 use sides::Monitor;
+use std::array;
 use ways::Ways;
 
 // Where the cells begin: behind 256 states.
 pub const CELLS: usize = 33280;
 
 // A number that mostly differs where words do, so that few states are compared word by word.
+#[tactic(auto, using(crate::proofs::Folded::digest_by_fold))]
 fn digest(words: &[u64; 64], from: u64) -> u64
     ensures { result ≡ digest_to from words.now 64 }
 {
-    let mut made = from;
-    for v in 0..64 {
-        let word = words::entry(words, v);
-        made = made % 72057594037927936 * 31 + word % 4294967296 + word / 4294967296;
-    }
-    made
+    words.iter().fold(from, |made, word| {
+        made % 72057594037927936 * 31 + word % 4294967296 + word / 4294967296
+    })
 }
 
 // Word i of a state.
 fn word_at(digest: u64, seen: bool, keeps: &[u64; 64], breaks: &[u64; 64], i: usize) -> u64
     ensures { result ≡ word_at digest seen keeps.now breaks.now i }
 {
-    if i < 2 {
-        return words::choose(i == 0, digest, words::only(seen, 1));
+    match i {
+        0 => digest,
+        1 => u64::from(seen),
+        2..=65 => keeps[i - 2],
+        _ => words::entry(breaks, i - 66),
     }
-    if i < 66 {
-        return words::entry(keeps, i - 2);
-    }
-    words::entry(breaks, i - 66)
 }
 
 // A monitor as words.
 fn block_of(monitor: Monitor) -> [u64; 130]
     ensures { result ≡ block_of monitor }
 {
-    let keeps = monitor.keeps;
-    let breaks = monitor.breaks;
-    let seen = monitor.seen;
-    let of_keeps = digest(&keeps.words, words::only(seen, 1));
-    let of_both = digest(&breaks.words, of_keeps);
-    let mut words = [0u64; 130];
-    for i in 0..130 {
-        words[i] = word_at(of_both, seen, &keeps.words, &breaks.words, i);
-    }
-    words
+    let of_keeps = digest(&monitor.keeps.words, u64::from(monitor.seen));
+    let of_both = digest(&monitor.breaks.words, of_keeps);
+    array::from_fn(|i| {
+        word_at(
+            of_both,
+            monitor.seen,
+            &monitor.keeps.words,
+            &monitor.breaks.words,
+            i,
+        )
+    })
 }
 
 // The 64 words from a place on.
@@ -67,11 +66,7 @@ fn words_from(room: &[u64], at: usize) -> [u64; 64]
     requires { at ≤ 33280 }
     ensures { result ≡ words_from room.now at }
 {
-    let mut words = [0u64; 64];
-    for v in 0..64 {
-        words[v] = words::entry(room, at + v);
-    }
-    words
+    array::from_fn(|v| words::entry(room, at + v))
 }
 
 // The monitor of a row.
@@ -80,12 +75,14 @@ fn load(room: &[u64], row: usize) -> Monitor
     ensures { result ≡ monitor_in (block_at 130 room.now row) }
 {
     let at = row * 130;
-    let keeps = words_from(room, at + 2);
-    let breaks = words_from(room, at + 66);
     Monitor {
         seen: words::entry(room, at + 1) != 0,
-        keeps: Pairs { words: keeps },
-        breaks: Pairs { words: breaks },
+        keeps: Pairs {
+            words: words_from(room, at + 2),
+        },
+        breaks: Pairs {
+            words: words_from(room, at + 66),
+        },
         expected: 0,
     }
 }
@@ -96,14 +93,7 @@ fn same(room: &[u64], row: usize, state: &[u64; 130]) -> bool
     ensures { result ≡ same_block room.now state.now row }
 {
     let at = row * 130;
-    let mut i = 0;
-    while i < 130 {
-        if words::entry(room, at + i) != words::entry(state, i) {
-            return false;
-        }
-        i += 1;
-    }
-    true
+    (0..130).all(|i| words::entry(room, at + i) == state[i])
 }
 
 // The first of the rows that stands for a state; their number where none does.
@@ -111,14 +101,7 @@ fn find(room: &[u64], rows: usize, state: &[u64; 130]) -> usize
     requires { rows ≤ 256 }
     ensures { (result ≡ first_below rows (same_block room.now state.now)) × (result ≤ rows) }
 {
-    let mut r = 0;
-    while r < rows {
-        if same(room, r, state) {
-            return r;
-        }
-        r += 1;
-    }
-    rows
+    (0..rows).find(|&r| same(room, r, state)).unwrap_or(rows)
 }
 
 // A state stored in a row.
@@ -127,11 +110,7 @@ fn store(room: &mut [u64], row: usize, state: &[u64; 130])
     ensures { room.new ≡ stored 130 row state.now 130 room.old }
 {
     let at = row * 130;
-    let mut i = 0;
-    while i < 130 {
-        room[at + i] = words::entry(state, i);
-        i += 1;
-    }
+    room[at..at + 130].copy_from_slice(state);
 }
 
 // The monitor after the event of a place. The first column sees nothing: there a row's moves are made, and for each other column what they led to is narrowed.
@@ -155,7 +134,7 @@ fn next_at<'a>(
     let column = place % c;
     let from = load(room, place / c);
     let event = columns::event_at(column);
-    if from.seen & (0 < column) {
+    if from.seen && 0 < column {
         let first = words::entry(room, CELLS + (place - column)) as usize;
         let wide = load(room, first);
         return narrowed(label, holds, live, wide, event);
@@ -189,11 +168,12 @@ fn fill(label: &[u16], next: &[u64], ways: Ways, live: Pairs, room: &mut [u64], 
         if row == 256 {
             return 0;
         }
-        let new = row == rows;
         store(room, row, &state);
         room[CELLS + place] = row as u64;
-        rows += words::only(new, 1) as usize;
-        end += words::only(new, c as u64) as usize;
+        if row == rows {
+            rows += 1;
+            end += c;
+        }
         place += 1;
     }
     rows
@@ -222,8 +202,7 @@ fn lamp_number(lamp: Lamp) -> u64
     requires { lamp.left ≤ 64 }
     ensures { result ≡ lamp_number lamp }
 {
-    let verdict = lamp.verdict;
-    verdict.number() as u64 * 256 + lamp.left as u64
+    u64::from(lamp.verdict.number()) * 256 + lamp.left as u64
 }
 
 // What the lamp shows in each of n rows.
@@ -231,9 +210,7 @@ pub fn read_outputs(room: &[u64], n: usize, outputs: &mut [u64])
     requires { (n ≤ 256) × (n ≤ length outputs.old) }
     ensures { outputs.new ≡ written n (λ r. answer_of (block_at 130 room.now r)) outputs.old }
 {
-    let mut r = 0;
-    while r < n {
+    for r in 0..n {
         outputs[r] = lamp_number(advance::lamp(load(room, r)));
-        r += 1;
     }
 }

@@ -43,16 +43,6 @@ pub enum Made {
     Refused(Refusal),
 }
 
-// All words 0.
-fn clear(work: &mut [u64])
-    ensures { work.new ≡ replicate (length work.old) 0 }
-{
-    let n = work.len();
-    for i in 0..n {
-        work[i] = 0;
-    }
-}
-
 // The rows found, joined and written; 11 where they find no room.
 fn lay(room: &[u64], n: usize, c: usize, machine: &mut [u8]) -> Made
     requires { (n ≤ 256) × (1 ≤ c) × (c ≤ 54) × (33280 ≤ length room.now) × Proper c (machine_in room.now n c) }
@@ -88,12 +78,12 @@ fn work_in(
     ensures words { work.new ≡ replicate (length work.old) 0 }
 {
     let n = explore(label, next, ways, live, first, c, work);
-    if n == 0 {
-        clear(work);
-        return Made::Refused(Refusal::at(Kind::Rows, 0));
-    }
-    let made = lay(work, n, c, machine);
-    clear(work);
+    let made = if n == 0 {
+        Made::Refused(Refusal::at(Kind::Rows, 0))
+    } else {
+        lay(work, n, c, machine)
+    };
+    work.fill(0);
     made
 }
 
@@ -141,15 +131,13 @@ pub fn make_machine(
         return Made::Refused(Refusal::at(Kind::Counts, 0));
     }
     let prepared = live::prepare(plant, fair, label, next, rule);
-    let outcome = prepared.outcome;
-    let live = prepared.live;
-    match outcome {
+    match prepared.outcome {
         Outcome::Refused(refusal) => Made::Refused(refusal),
         Outcome::Accepted => {
             if work.len() < Size::WORDS {
                 return Made::Refused(Refusal::at(Kind::Room, 0));
             }
-            work_on(plant, label, next, rule, live, work, machine)
+            work_on(plant, label, next, rule, prepared.live, work, machine)
         }
     }
 }

@@ -2,7 +2,8 @@
 // thin as `program` is: the calls decide.
 #![tactic(auto)]
 
-ghost use Rattle.std.specs.Prelude.{◌≡◌, ◌≤◌, ◌<◌, length};
+ghost use Rattle.std.specs.Prelude.{◌≡◌, ◌≤◌, ◌<◌, length, true};
+ghost use Rattle.std.specs.Option.{IfSome};
 ghost use Rattle.opened.specs.Lent.{Lent};
 ghost use Rattle.scraps.specs.Calls.{longest};
 ghost use Rattle.follow.specs.AtOnce.{events_in, goes_on, bytes_heard, Onward};
@@ -10,22 +11,14 @@ ghost use Rattle.follow.specs.AtOnce.{events_in, goes_on, bytes_heard, Onward};
 use answers::{Answer, Kind, Outcome, Refusal};
 use controller::LogAnswer;
 use pairs::Pairs;
-use plant::{Plant, Table, TableRead};
+use plant::{Plant, Table};
 use program::given::{read_plant, read_rule};
 use program::said::{refuse, show};
 use radio::{Form, Radio};
-use rule_text::RuleRead;
 use sides::Monitor;
 use std::io::Read;
 use std::rt::Files;
 use syntax::Rule;
-
-// The radio behind a scrap, and whether more is listened to.
-#[derive(Clone, Copy)]
-struct Heard {
-    radio: Radio,
-    more: bool,
-}
 
 // The folder that the argument names, or this one.
 fn main(rt: HostRuntime) {
@@ -37,11 +30,9 @@ fn main(rt: HostRuntime) {
 // plant.txt by 14, 3, 2.
 fn with_folder<R: Files + Print, I: Read>(rt: &R, input: &mut I, folder: &[u8]) {
     let read = read_plant(rt, folder);
-    let outcome = read.outcome;
-    let table = read.table;
-    match outcome {
+    match read.outcome {
         Outcome::Refused(refusal) => refuse(rt, refusal),
-        Outcome::Accepted => with_table(rt, input, folder, table),
+        Outcome::Accepted => with_table(rt, input, folder, read.table),
     }
 }
 
@@ -50,19 +41,14 @@ fn with_table<R: Files + Print, I: Read>(rt: &R, input: &mut I, folder: &[u8], t
     requires { Lent table }
 {
     let plant = table.plant;
-    let just = plant.just;
-    let states = plant.states;
-    let fair = table.fair;
-    let label = table.label;
-    let next = table.next;
     with_parts(
         rt,
         input,
         folder,
         plant,
-        &fair[..just],
-        &label[..states],
-        &next[..states],
+        &table.fair[..plant.just],
+        &table.label[..plant.states],
+        &table.next[..plant.states],
     );
 }
 
@@ -76,12 +62,10 @@ fn with_parts<R: Files + Print, I: Read>(
     label: &[u16],
     next: &[u64],
 ) {
-    let read: RuleRead = read_rule(rt, folder, plant, fair, label, next);
-    let outcome = read.outcome;
-    let rule = read.rule;
-    match outcome {
+    let read = read_rule(rt, folder, plant, fair, label, next);
+    match read.outcome {
         Outcome::Refused(refusal) => refuse(rt, refusal),
-        Outcome::Accepted => with_rule(rt, input, plant, fair, label, next, rule),
+        Outcome::Accepted => with_rule(rt, input, plant, fair, label, next, read.rule),
     }
 }
 
@@ -95,12 +79,9 @@ fn with_rule<P: Print, I: Read>(
     next: &[u64],
     rule: Rule,
 ) {
-    let prepared = live::prepare(plant, fair, label, next, rule);
-    let live = prepared.live;
+    let live = live::prepare(plant, fair, label, next, rule).live;
     let opened = monitor::open(plant, fair, label, next, rule, live);
-    let answer = opened.answer;
-    let monitor = opened.monitor;
-    match answer {
+    match opened.answer {
         Answer::Refused(refusal) => refuse(to, refusal),
         Answer::Shown(lamp) => {
             show(to, report::start_line(lamp));
@@ -113,7 +94,7 @@ fn with_rule<P: Print, I: Read>(
                 next,
                 rule,
                 live,
-                silent(monitor),
+                silent(opened.monitor),
             );
         }
     }
@@ -148,15 +129,13 @@ fn follow<P: Print, I: Read>(
     requires { bytes_heard radio ≤ longest }
 {
     let mut now = radio;
-    let mut more = true;
-    while more {
-        let heard = listen(to, input, plant, fair, label, next, rule, live, now);
-        now = heard.radio;
-        more = heard.more;
+    while let Some(behind) = listen(to, input, plant, fair, label, next, rule, live, now) {
+        now = behind;
     }
 }
 
 // What the input has now, at most 20 bytes: no line is shorter, so at most one ends, and the lamp behind it is shown before more is read.
+// The radio behind it, if there is more to listen to. A log that can no longer be read is 14.
 fn listen<P: Print, I: Read>(
     to: &P,
     input: &mut I,
@@ -167,18 +146,17 @@ fn listen<P: Print, I: Read>(
     rule: Rule,
     live: Pairs,
     radio: Radio,
-) -> Heard
-    ensures { Onward radio result.more result.radio }
+) -> Option<Radio>
+    ensures { IfSome result (λ behind. Onward radio true behind) }
 {
     let mut scrap = [0u8; 20];
     match input.read(&mut scrap) {
         Ok(0) => {
             end(
                 to,
-                false,
                 scraps::finish(plant, fair, label, next, rule, live, radio),
             );
-            Heard { radio, more: false }
+            None
         }
         Ok(len) => hear(
             to,
@@ -192,12 +170,8 @@ fn listen<P: Print, I: Read>(
             &scrap[..len],
         ),
         Err(_) => {
-            end(
-                to,
-                true,
-                scraps::finish(plant, fair, label, next, rule, live, radio),
-            );
-            Heard { radio, more: false }
+            refuse(to, Refusal::at(Kind::File, 0));
+            None
         }
     }
 }
@@ -213,9 +187,9 @@ fn hear<P: Print>(
     live: Pairs,
     radio: Radio,
     scrap: &[u8],
-) -> Heard
+) -> Option<Radio>
     requires { (0 < length scrap.now) × (length scrap.now ≤ 20) }
-    ensures { Onward radio result.more result.radio }
+    ensures { IfSome result (λ behind. Onward radio true behind) }
 {
     let mut verdicts = [0u8; 20];
     let taken = scraps::take(
@@ -229,16 +203,13 @@ fn hear<P: Print>(
         scrap,
         &mut verdicts,
     );
-    let answer = taken.answer;
-    let behind = taken.radio;
-    let monitor = behind.monitor;
-    if has_event(answer) {
-        tell(to, monitor);
+    if has_event(taken.answer) {
+        tell(to, taken.radio.monitor);
     }
-    let more = goes_on(to, answer);
-    Heard {
-        radio: behind,
-        more,
+    if goes_on(to, taken.answer) {
+        Some(taken.radio)
+    } else {
+        None
     }
 }
 
@@ -260,8 +231,7 @@ fn goes_on<P: Print>(to: &P, answer: LogAnswer) -> bool
     match answer {
         LogAnswer::Watched(_) => true,
         LogAnswer::Stopped(stop) => {
-            let refusal = stop.refusal;
-            refuse(to, refusal);
+            refuse(to, stop.refusal);
             false
         }
         LogAnswer::Refused(refusal) => {
@@ -273,25 +243,13 @@ fn goes_on<P: Print>(to: &P, answer: LogAnswer) -> bool
 
 // The lamp behind an event, whose number is the one before that expected.
 fn tell<P: Print>(to: &P, monitor: Monitor) {
-    let number = before(monitor.expected);
+    let number = monitor.expected.saturating_sub(1) as usize;
     show(to, report::lamp_line(number, advance::lamp(monitor)));
 }
 
-fn before(expected: u64) -> usize {
-    if expected == 0 {
-        return 0;
-    }
-    (expected - 1) as usize
-}
-
-// The end: a log that can no longer be read is 14.
-fn end<P: Print>(to: &P, broken: bool, outcome: Outcome) {
-    if broken {
-        refuse(to, Refusal::at(Kind::File, 0));
-        return;
-    }
-    match outcome {
-        Outcome::Accepted => {}
-        Outcome::Refused(refusal) => refuse(to, refusal),
+// The end: a refusal is written.
+fn end<P: Print>(to: &P, outcome: Outcome) {
+    if let Outcome::Refused(refusal) = outcome {
+        refuse(to, refusal);
     }
 }

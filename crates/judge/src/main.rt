@@ -3,7 +3,6 @@
 #![tactic(auto)]
 
 use answers::{Kind, Refusal};
-use controller::Stop;
 use files::File;
 use neighbour::{Fault, Judged, judge_report};
 use program::said::{put, refuse};
@@ -28,65 +27,44 @@ fn main(rt: HostRuntime) {
 // The four files, by 14, before any of them is looked at.
 fn with_folder<R: Files + Print>(rt: &R, folder: &[u8]) {
     let mut plant = [0u8; File::PLANT];
-    let file = files::read_in(rt, folder, b"plant.txt", &mut plant);
-    let len = file.len;
-    if !file.ok {
-        refuse(rt, Refusal::at(Kind::File, 0));
-        return;
+    let mut rule = [0u8; File::RULE];
+    let mut log = [0u8; File::LOG];
+    let mut report = [0u8; REPORT];
+    let plant = text_in(rt, folder, b"plant.txt", &mut plant);
+    let rule = text_in(rt, folder, b"rule.txt", &mut rule);
+    let log = text_in(rt, folder, b"log.txt", &mut log);
+    let report = text_in(rt, folder, b"report.txt", &mut report);
+    match (plant, rule, log, report) {
+        (Some(plant), Some(rule), Some(log), Some(report)) => {
+            with_text(rt, plant, without_end(rule), log, report)
+        }
+        _ => refuse(rt, Refusal::at(Kind::File, 0)),
     }
-    with_plant(rt, folder, &plant[..len]);
 }
 
-fn with_plant<R: Files + Print>(rt: &R, folder: &[u8], plant: &[u8]) {
-    let mut rule = [0u8; File::RULE];
-    let file = files::read_in(rt, folder, b"rule.txt", &mut rule);
-    let len = file.len;
-    if !file.ok {
-        refuse(rt, Refusal::at(Kind::File, 0));
-        return;
+// The text of a file, if it is there.
+fn text_in<'a, R: Files>(
+    rt: &R,
+    folder: &[u8],
+    name: &[u8],
+    room: &'a mut [u8],
+) -> Option<&'a [u8]> {
+    let file = files::read_in(rt, folder, name, room);
+    if file.ok {
+        Some(&room[..file.len])
+    } else {
+        None
     }
-    with_rule(rt, folder, plant, without_end(&rule[..len]));
 }
 
 // A rule's text, one final LF dropped.
 fn without_end(text: &[u8]) -> &[u8] {
-    let len = text.len();
-    if len == 0 {
-        return &text[0..0];
-    }
-    let last = len - 1;
-    if text[last] == 10 {
-        return &text[0..last];
-    }
-    &text[0..len]
-}
-
-fn with_rule<R: Files + Print>(rt: &R, folder: &[u8], plant: &[u8], rule: &[u8]) {
-    let mut log = [0u8; File::LOG];
-    let file = files::read_in(rt, folder, b"log.txt", &mut log);
-    let len = file.len;
-    if !file.ok {
-        refuse(rt, Refusal::at(Kind::File, 0));
-        return;
-    }
-    with_log(rt, folder, plant, rule, &log[..len]);
-}
-
-fn with_log<R: Files + Print>(rt: &R, folder: &[u8], plant: &[u8], rule: &[u8], log: &[u8]) {
-    let mut text = [0u8; REPORT];
-    let file = files::read_in(rt, folder, b"report.txt", &mut text);
-    let len = file.len;
-    if !file.ok {
-        refuse(rt, Refusal::at(Kind::File, 0));
-        return;
-    }
-    with_text(rt, plant, rule, log, &text[..len]);
+    text.strip_suffix(b"\n").unwrap_or(text)
 }
 
 // The form of report.txt.
 fn with_text<P: Print>(to: &P, plant: &[u8], rule: &[u8], log: &[u8], text: &[u8]) {
-    let read = read_report(text);
-    match read {
+    match read_report(text) {
         ReportRead::Bad(place) => refuse_report(to, place),
         ReportRead::Report(parts) => with_report(to, plant, rule, log, text, parts),
     }
@@ -101,16 +79,14 @@ fn with_report<P: Print>(
     text: &[u8],
     parts: ReportParts,
 ) {
-    let keeping = parts.keeping;
-    let breaking = parts.breaking;
     let mut keep_stem = [0u8; STATES];
     let mut keep_loop = [0u8; STATES];
     let mut break_stem = [0u8; STATES];
     let mut break_loop = [0u8; STATES];
-    let a = states_at(text, keeping.stem, &mut keep_stem);
-    let b = states_at(text, keeping.turn, &mut keep_loop);
-    let c = states_at(text, breaking.stem, &mut break_stem);
-    let d = states_at(text, breaking.turn, &mut break_loop);
+    let a = states_at(text, parts.keeping.stem, &mut keep_stem);
+    let b = states_at(text, parts.keeping.turn, &mut keep_loop);
+    let c = states_at(text, parts.breaking.stem, &mut break_stem);
+    let d = states_at(text, parts.breaking.turn, &mut break_loop);
     let judged = judge_report(
         plant,
         rule,
@@ -134,19 +110,19 @@ fn tell<P: Print>(to: &P, judged: Judged) {
                 b"wrong verdict: what is claimed is not what the runs of the table dictate\n",
             )
         }
-        Judged::Stopped(stop) => refuse_event(to, stop),
+        // An event is refused at the offset of its line.
+        Judged::Stopped(stop) => refuse(to, stop.refusal),
         Judged::Refused(refusal) => refuse(to, refusal),
     }
 }
 
 fn tell_fault<P: Print>(to: &P, fault: Fault) {
-    let failing = fault.failing;
     if fault.keeps {
         put(to, b"wrong run: the one that keeps the rule fails ");
     } else {
         put(to, b"wrong run: the one that breaks the rule fails ");
     }
-    tell_failing(to, failing);
+    tell_failing(to, fault.failing);
 }
 
 // The rule that a run fails, and what that means.
@@ -170,12 +146,6 @@ fn tell_failing<P: Print>(to: &P, failing: Failing) {
             b"the rule's value: from the last restart on it is of the other kind\n",
         ),
     }
-}
-
-// An event is refused at the offset of its line.
-fn refuse_event<P: Print>(to: &P, stop: Stop) {
-    let refusal = stop.refusal;
-    refuse(to, refusal);
 }
 
 // A text that is no report is refused as a log is, by 12 at the first byte that can't be right; the word before it says which text it is.

@@ -28,11 +28,9 @@ fn main(rt: HostRuntime) {
 // The two files of the folder, as `program` reads them; a refusal is the whole output.
 fn run_in<R: Files + Print>(rt: &R, folder: &[u8]) {
     let read = read_plant(rt, folder);
-    let outcome = read.outcome;
-    let table = read.table;
-    match outcome {
+    match read.outcome {
         Outcome::Refused(refusal) => refuse(rt, refusal),
-        Outcome::Accepted => with_table(rt, folder, table),
+        Outcome::Accepted => with_table(rt, folder, read.table),
     }
 }
 
@@ -41,18 +39,13 @@ fn with_table<R: Files + Print>(rt: &R, folder: &[u8], table: Table)
     requires { Lent table }
 {
     let plant = table.plant;
-    let just = plant.just;
-    let states = plant.states;
-    let fair = table.fair;
-    let label = table.label;
-    let next = table.next;
     with_parts(
         rt,
         folder,
         plant,
-        &fair[..just],
-        &label[..states],
-        &next[..states],
+        &table.fair[..plant.just],
+        &table.label[..plant.states],
+        &table.next[..plant.states],
     );
 }
 
@@ -65,11 +58,9 @@ fn with_parts<R: Files + Print>(
     next: &[u64],
 ) {
     let read = read_rule(rt, folder, plant, fair, label, next);
-    let outcome = read.outcome;
-    let rule = read.rule;
-    match outcome {
+    match read.outcome {
         Outcome::Refused(refusal) => refuse(rt, refusal),
-        Outcome::Accepted => with_rule(rt, plant, fair, label, next, rule),
+        Outcome::Accepted => with_rule(rt, plant, fair, label, next, read.rule),
     }
 }
 

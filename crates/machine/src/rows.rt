@@ -14,10 +14,12 @@ const CELLS: usize = 22;
 pub fn show_machine<P: Print>(to: &P, machine: &[u8], size: Size)
     requires { (size.rows * size.bytes ≤ length machine.now) × (2 ≤ size.bytes) × (size.bytes ≤ 56) }
 {
-    let rows = size.rows;
-    let bytes = size.bytes;
-    let all = rows * bytes;
-    show_both(to, &machine[..all], rows, bytes);
+    show_both(
+        to,
+        &machine[..size.rows * size.bytes],
+        size.rows,
+        size.bytes,
+    );
 }
 
 fn show_both<P: Print>(to: &P, machine: &[u8], rows: usize, bytes: usize)
@@ -57,14 +59,7 @@ fn digit(n: usize) -> u8 {
 fn digit_from(n: usize, part: usize) -> u8
     requires { 0 < part }
 {
-    if n < part {
-        return b' ';
-    }
-    digit(n / part)
-}
-
-fn wide(x: u8) -> usize {
-    x as usize
+    if n < part { b' ' } else { digit(n / part) }
 }
 
 // Four bytes: one before the number, and the number at the right of three.
@@ -99,8 +94,8 @@ fn put_name(line: &mut [u8], at: usize, k: usize)
     requires { (k < 54) × (at + 6 ≤ length line.old) }
 {
     let event = columns::event_at(k);
-    let see = digit(event.see as usize);
-    let val = digit(event.val as usize);
+    let see = digit(usize::from(event.see));
+    let val = digit(usize::from(event.val));
     let name = [b' ', see, b'/', val, b'/', digit(k % 2)];
     put_text(line, at, &name);
 }
@@ -109,12 +104,8 @@ fn put_name(line: &mut [u8], at: usize, k: usize)
 fn show_rows<P: Print>(to: &P, machine: &[u8], bytes: usize)
     requires { (2 ≤ bytes) × (bytes ≤ 56) }
 {
-    let mut row = 0;
-    let mut at = 0;
-    while bytes <= machine.len() - at {
-        show_row(to, row, &machine[at..at + bytes]);
-        row += 1;
-        at += bytes;
+    for (row, line) in machine.chunks_exact(bytes).enumerate() {
+        show_row(to, row, line);
     }
 }
 
@@ -124,7 +115,7 @@ fn show_row<P: Print>(to: &P, row: usize, bytes: &[u8])
     let mut line = [b' '; LINE];
     put_cell(&mut line, 0, b' ', row);
     put_word(&mut line, 5, bytes[0]);
-    put_cell(&mut line, 18, b' ', wide(bytes[1]));
+    put_cell(&mut line, 18, b' ', usize::from(bytes[1]));
     put_cells(&mut line, bytes);
     let end = 10 + 6 * bytes.len();
     put_text(&mut line, end, b"\n");
@@ -135,23 +126,21 @@ fn show_row<P: Print>(to: &P, row: usize, bytes: &[u8])
 fn put_word(line: &mut [u8], at: usize, verdict: u8)
     requires { at + 12 ≤ length line.old }
 {
-    if verdict == 0 {
-        put_text(line, at, b"inconclusive");
-    } else if verdict == 1 {
-        put_text(line, at, b"true");
-    } else if verdict == 2 {
-        put_text(line, at, b"false");
-    } else {
-        put_text(line, at, b"out-of-model");
-    }
+    let word: &[u8] = match verdict {
+        0 => b"inconclusive",
+        1 => b"true",
+        2 => b"false",
+        _ => b"out-of-model",
+    };
+    put_text(line, at, word);
 }
 
 // The cells stand behind two bytes, each under its event.
 fn put_cells(line: &mut [u8], bytes: &[u8])
     requires { (length bytes.now ≤ 56) × (347 ≤ length line.old) }
 {
-    for k in 2..bytes.len() {
-        put_cell(line, 12 + 6 * k, b' ', wide(bytes[k]));
+    for (k, &cell) in bytes.iter().enumerate().skip(2) {
+        put_cell(line, 12 + 6 * k, b' ', usize::from(cell));
     }
 }
 
@@ -159,10 +148,8 @@ fn put_cells(line: &mut [u8], bytes: &[u8])
 fn show_bytes<P: Print>(to: &P, machine: &[u8], bytes: usize)
     requires { (2 ≤ bytes) × (bytes ≤ 56) }
 {
-    let mut at = 0;
-    while bytes <= machine.len() - at {
-        show_line(to, &machine[at..at + bytes]);
-        at += bytes;
+    for line in machine.chunks_exact(bytes) {
+        show_line(to, line);
     }
 }
 
@@ -181,7 +168,7 @@ fn show_line<P: Print>(to: &P, bytes: &[u8])
 fn put_bytes(line: &mut [u8], bytes: &[u8])
     requires { (length bytes.now ≤ 56) × (347 ≤ length line.old) }
 {
-    for k in 0..bytes.len() {
-        put_cell(line, 4 + 4 * k, b',', wide(bytes[k]));
+    for (k, &byte) in bytes.iter().enumerate() {
+        put_cell(line, 4 + 4 * k, b',', usize::from(byte));
     }
 }

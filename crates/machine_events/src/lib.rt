@@ -33,15 +33,17 @@ fn event_of(byte: u8) -> Event
 }
 
 // How many rows so many bytes are; 0 where they are not whole rows, or more than 256.
+#[tactic(auto, unfolding(machine_lookup::specs::Shape::rows_of))]
 fn rows_of(bytes: usize, width: usize) -> usize
     requires { 1 ≤ width }
     ensures { result ≡ rows_of bytes width }
 {
     let rows = bytes / width;
-    if (bytes % width == 0) & (rows <= 256) {
-        return rows;
+    if bytes % width == 0 && rows <= 256 {
+        rows
+    } else {
+        0
     }
-    0
 }
 
 // A look-up where the width of the rows and their number are known: what is the same for all events is not worked out for each.
@@ -81,10 +83,8 @@ fn turns(
     ensures { Says (through_to machine.now props row events.now (length events.now)) shown.old shown.new result }
 {
     let mut at = row;
-    let many = events.len();
-    for n in 0..many {
-        let looked = look_in(machine, props, width, rows, at, event_of(events[n]));
-        match looked {
+    for (n, &byte) in events.iter().enumerate() {
+        match look_in(machine, props, width, rows, at, event_of(byte)) {
             Looked::Refused(refusal) => {
                 return Through {
                     outcome: Outcome::Refused(refusal),
@@ -101,7 +101,7 @@ fn turns(
     }
     Through {
         outcome: Outcome::Accepted,
-        done: many,
+        done: events.len(),
         row: at,
     }
 }
@@ -129,10 +129,7 @@ pub fn look_through(
     ensures answer { result ≡ (through_of machine.now props row events.now (length shown.old)).through }
     ensures shown { shown.new ≡ over (through_of machine.now props row events.now (length shown.old)).shown shown.old }
 {
-    if props < 1 {
-        return refused(Kind::Counts, row);
-    }
-    if 3 < props {
+    if props < 1 || 3 < props {
         return refused(Kind::Counts, row);
     }
     let width = columns::count(props) + 2;

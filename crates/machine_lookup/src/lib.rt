@@ -88,10 +88,7 @@ fn firsts_of(see: u16) -> u64
 pub fn first_of(event: Event) -> usize
     ensures { (result ≡ first_of event.see event.val) × (result < 256) }
 {
-    if 7 < event.see {
-        return 56;
-    }
-    if 7 < event.val {
+    if 7 < event.see || 7 < event.val {
         return 56;
     }
     let past = event.val * 8;
@@ -110,10 +107,11 @@ pub fn stand_at(machine: &[u8], width: usize, rows: usize, cell: u8) -> Looked
     let at = row * width;
     let verdict = machine[at];
     let left = machine[at + 1];
-    if (verdict <= 3) & (left <= 64) {
-        return Looked::Row(Stand { row, verdict, left });
+    if verdict <= 3 && left <= 64 {
+        Looked::Row(Stand { row, verdict, left })
+    } else {
+        Looked::Refused(Refusal::at(Kind::Value, 0))
     }
-    Looked::Refused(Refusal::at(Kind::Value, 0))
 }
 
 // Checks 1 and 9, then 10, and 9 again for the row that the cell holds.

@@ -23,9 +23,7 @@ pub fn narrowed(
 {
     let agree = labels::agreeing(label, event.see, event.val);
     if event.new {
-        let keeps = wide.keeps;
-        let breaks = wide.breaks;
-        let both = keeps.join(breaks);
+        let both = wide.keeps.join(wide.breaks);
         return Monitor {
             seen: true,
             keeps: split(&both.words, agree, holds, true),

@@ -32,7 +32,7 @@ use Rattle.watching.specs.Watching.{T, f, Held, stays_held}
 use Rattle.course.specs.Course.{turn_of, turn, Fitting}
 use Rattle.course.proofs.CourseRight.{turn_is}
 use Rattle.radio.specs.declared.Form.{Form}
-use Rattle.radio.specs.declared.Lit.TheVariants.{Dark, Verdict}
+use Rattle.std.specs.Prelude.{None, Some}
 use Rattle.radio.specs.declared.Radio.{Radio}
 use Rattle.radio.specs.declared.Went.{Went}
 use Rattle.radio.specs.declared.ends.Turned.{Turned}
@@ -62,19 +62,19 @@ module _ (p : Plant) (label next leave enter holds : List ℕ) (count : ℕ) (li
   ends_by is = ap (λ (x : Outcome). by x e) (sym is ∙ told) ∙ ap (λ (e : Event). by (event_outcome e p.props r.monitor.seen r.monitor.expected) e) line
 
   pub end_refused : {x y : Refusal} → o ≡ Refused x → y ≡ refused_at x.kind r.start → {z : Radio} → z ≡ stopped_radio r y
-      → record { radio = z; lit = Dark } ≡ ended_turn (width_of p.props) (turn_by p label next leave enter holds count live) r q
-  end_refused is place stops = ap (λ (z : Radio). record { radio = z; lit = Dark }) (stops ∙ ap (stopped_radio r) place) ∙ ends_by is
+      → record { radio = z; lit = None } ≡ ended_turn (width_of p.props) (turn_by p label next leave enter holds count live) r q
+  end_refused is place stops = ap (λ (z : Radio). record { radio = z; lit = None }) (stops ∙ ap (stopped_radio r) place) ∙ ends_by is
 
   pub end_taken : o ≡ Accepted → {now : Monitor} → now ≡ taken_in label next (ways_by leave enter holds count) live r.monitor e → {shown : Lamp} → shown ≡ lamp_in (model_of now)
       → {v : ℕ} → v ≡ number_of shown.verdict → {form : Form} → form ≡ form_of (is_numbered q)
-      → record { radio = record { part = replicate 40 0; len = 0; start = r.start + length q; form = form; standing = Accepted; monitor = now }; lit = Verdict v }
+      → record { radio = record { part = replicate 40 0; len = 0; start = r.start + length q; form = form; standing = Accepted; monitor = now }; lit = Some v }
       ≡ ended_turn (width_of p.props) (turn_by p label next leave enter holds count live) r q
   end_taken is {now} moves {shown} shows {v} value {form} formed =
       ap₂ (λ (f : Form) (v : ℕ). behind f v now) formed (value ∙ ap (λ (l : Lamp). number_of l.verdict) shows)
       ∙ ap (λ (m : Monitor). behind (form_of (is_numbered q)) (number_of (lamp_in (model_of m)).verdict) m) moves ∙ ends_by is
     where
       behind : Form → ℕ → Monitor → Turned
-      behind form v m = record { radio = record { part = replicate 40 0; len = 0; start = r.start + length q; form = form; standing = Accepted; monitor = m }; lit = Verdict v }
+      behind form v m = record { radio = record { part = replicate 40 0; len = 0; start = r.start + length q; form = form; standing = Accepted; monitor = m }; lit = Some v }
 
 -- ---- as by the calls
 

@@ -16,7 +16,7 @@ use Rattle.answers.specs.declared.Outcome.{Outcome}
 use Rattle.answers.specs.declared.Outcome.TheVariants.{Accepted, Refused}
 use Rattle.answers.specs.Paper.{refused_at}
 use Rattle.event_log.specs.declared.Event.{Event}
-use Rattle.event_log.specs.Line.{line, line_bytes}
+use Rattle.event_log.specs.Line.{line_bytes}
 use Rattle.event_log.specs.Read.{bytes_in, event_at}
 use Rattle.sides.specs.declared.Monitor.{Monitor}
 use Rattle.monitor.specs.declared.Watched.{Watched}

@@ -12,7 +12,7 @@ use Rattle.event_log.specs.declared.Event.{Event}
 use Rattle.sides.specs.declared.Monitor.{Monitor}
 use Rattle.monitor.specs.declared.Watched.{Watched}
 use Rattle.course.specs.Laid.{laid}
-use Rattle.radio.specs.declared.Lit.TheVariants.{Dark}
+use Rattle.std.specs.Prelude.{None}
 use Rattle.radio.specs.declared.Radio.{Radio}
 use Rattle.radio.specs.declared.piece.Pieced.{Pieced}
 use Rattle.radio.specs.Radio.{Ear, hear_all}
@@ -45,7 +45,7 @@ module _ (w : ℕ) (step : Monitor → Event → Watched) (few : w ≤ 4) {r c :
       (below_or_beyond p.took (length scrap)) in
       let turned = subst (λ (x : Pieced). Turning w step few c scrap x.took (turned_of w step x.whole x.radio)) (sym is_p)
       (turning w step few c scrap (clean_fit w fit is) (clean_clean w fit is) some c.standing refl) in
-      let dark : Turning w step few c scrap p.took (record { radio = p.radio; lit = Dark }) = subst (λ (b : Bool). Turning w step few c scrap p.took (turned_of w step b p.radio)) unfinished turned in
+      let dark : Turning w step few c scrap p.took (record { radio = p.radio; lit = None }) = subst (λ (b : Bool). Turning w step few c scrap p.took (turned_of w step b p.radio)) unfinished turned in
       let heard : hear_all w step (heard_by r []) scrap ≡ heard_by p.radio [] =
       ap₂ (λ (e : Ear) (s : List ℕ). hear_all w step (record { ear = e; verdicts = [] }) s) (sym (clean_ear w fit is)) (sym (take_all p.took scrap enough)) ∙ dark.is [] in
       rw heard (record { radio = dark.clean; done = refl; bytes = refl })

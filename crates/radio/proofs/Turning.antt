@@ -24,8 +24,7 @@ use Rattle.sides.specs.declared.Monitor.{Monitor}
 use Rattle.monitor.specs.declared.Watched.{Watched}
 use Rattle.course.specs.Laid.{laid, laid_more, laid_length}
 use Rattle.radio.specs.declared.Form.{Form}
-use Rattle.radio.specs.declared.Lit.{Lit}
-use Rattle.radio.specs.declared.Lit.TheVariants.{Dark, Verdict}
+use Rattle.std.specs.Prelude.{Option, None, Some}
 use Rattle.radio.specs.declared.Radio.{Radio}
 use Rattle.radio.specs.declared.piece.Pieced.{Pieced}
 use Rattle.radio.specs.declared.ends.Turned.{Turned}
@@ -210,7 +209,7 @@ module _ (w : ℕ) (step : Monitor → Event → Watched) (few : w ≤ 4) where
     }
 
     by_stop : r.standing ≡ Accepted → ltb (good_of w r.form line) (length line) ≡ true
-        → Turning r rest took (record { radio = stopped_radio r (refused_at LogText (r.start + good_of w r.form line)); lit = Dark })
+        → Turning r rest took (record { radio = stopped_radio r (refused_at LogText (r.start + good_of w r.form line)); lit = None })
     unfolding pieced
     by_stop goes e = emptied _ refl refl (omega arith) (λ vs. rw (e, append-nil) refl) goes
 
@@ -286,13 +285,13 @@ module _ (w : ℕ) (step : Monitor → Event → Watched) (few : w ≤ 4) (r₀ 
   unfolding laid
   starts fit clean = record { said = []; is = refl; many = refl; bytes = refl; fewer = zero-le; within = zero-le; fit = subst (Fit w r₀) (omega arith) fit; clean = clean }
 
-  laid_lit : (said : List ℕ) (l : Lit) → noted_at (laid said verdicts₀) (length said) (lit_of l) ≡ laid (said ++ lit_of l) verdicts₀
-  laid_lit said Dark = ap (λ (s : List ℕ). laid s verdicts₀) (sym (append-nil said))
-  laid_lit said (Verdict v) = laid_more said verdicts₀ v
+  laid_lit : (said : List ℕ) (l : Option ℕ) → noted_at (laid said verdicts₀) (length said) (lit_of l) ≡ laid (said ++ lit_of l) verdicts₀
+  laid_lit said None = ap (λ (s : List ℕ). laid s verdicts₀) (sym (append-nil said))
+  laid_lit said (Some v) = laid_more said verdicts₀ v
 
-  lit_few : (l : Lit) → length (lit_of l) ≤ 1
-  lit_few Dark = omega arith
-  lit_few (Verdict v) = omega arith
+  lit_few : (l : Option ℕ) → length (lit_of l) ≤ 1
+  lit_few None = omega arith
+  lit_few (Some v) = omega arith
 
   module _ {r : Radio} {at done : ℕ} {verdicts : List ℕ} (g : Going r at done verdicts) where
     pub long : length verdicts ≡ length verdicts₀

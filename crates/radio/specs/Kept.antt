@@ -16,8 +16,7 @@ use Rattle.course.specs.Laid.{laid}
 use Rattle.course.specs.Course.{turn}
 use Rattle.sides.specs.declared.Monitor.{Monitor}
 use Rattle.monitor.specs.declared.Watched.{Watched}
-use Rattle.radio.specs.declared.Lit.{Lit}
-use Rattle.radio.specs.declared.Lit.TheVariants.{Dark, Verdict}
+use Rattle.std.specs.Prelude.{Option, None, Some}
 use Rattle.radio.specs.declared.Radio.{Radio}
 use Rattle.radio.specs.declared.piece.Pieced.{Pieced}
 use Rattle.radio.specs.declared.ends.Turned.{Turned}
@@ -85,9 +84,9 @@ module _ (w : ℕ) where
 
 -- ---- a line
 
-abbrev pub lit_of : Lit → List ℕ
-lit_of Dark = []
-lit_of (Verdict v) = v ∷ []
+abbrev pub lit_of : Option ℕ → List ℕ
+lit_of None = []
+lit_of (Some v) = v ∷ []
 
 -- what a move needs of all that a rule says
 abbrev pub ways_by : List ℕ → List ℕ → List ℕ → ℕ → Ways
@@ -101,15 +100,15 @@ module _ (w : ℕ) (step : Monitor → Event → Watched) where
   answered_turn r q s (Answers.Shown l) =
       record {
         radio = record { part = replicate 40 0; len = 0; start = r.start + length q; form = form_of (is_numbered q); standing = Accepted; monitor = s.monitor };
-        lit = Verdict (number_of l.verdict);
+        lit = Some (number_of l.verdict);
       }
-  answered_turn r q s (Answers.Refused x) = record { radio = stopped_radio r (refused_at x.kind r.start); lit = Dark }
+  answered_turn r q s (Answers.Refused x) = record { radio = stopped_radio r (refused_at x.kind r.start); lit = None }
 
   unfoldable pub ended_turn : Radio → List ℕ → Turned
   ended_turn r q = answered_turn r q (step r.monitor (event_at w q 0)) (step r.monitor (event_at w q 0)).answer
 
   abbrev pub turned_of : Bool → Radio → Turned
-  turned_of whole r = cond whole (ended_turn r (part_of r)) (record { radio = r; lit = Dark })
+  turned_of whole r = cond whole (ended_turn r (part_of r)) (record { radio = r; lit = None })
 
 -- ---- a scrap
 

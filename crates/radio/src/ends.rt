@@ -5,8 +5,8 @@ ghost use Rattle.event_numbers.specs.Numbers.{number_of};
 ghost use Rattle.sides.specs.Sides.{taken_in};
 ghost use Rattle.radio.specs.Kept.{turn_by, ways_by, ended_turn, turned_of};
 
+use crate::Radio;
 use crate::line::form_of;
-use crate::{Lit, Radio};
 use advance::{lamp, take};
 use answers::{Outcome, Refusal};
 use event_log::Event;
@@ -18,7 +18,7 @@ use sides::Monitor;
 #[derive(Clone, Copy)]
 pub struct Turned {
     pub radio: Radio,
-    pub lit: Lit,
+    pub lit: Option<u8>,
 }
 
 // An event whose number is in turn, behind those that are missing before it.
@@ -37,8 +37,7 @@ fn moved<'a>(
     ensures { result ≡ taken_in label.now next.now (ways_by leave.now enter.now holds.now count) live.now monitor event }
 {
     let mut now = monitor;
-    let num = event.num;
-    let number = number_of(num, now.expected);
+    let number = number_of(event.num, now.expected);
     let gap = missing(now.seen, now.expected, number);
     now.expected = number + 1;
     take(
@@ -65,21 +64,16 @@ fn ended<'a>(
 {
     let event = event_log::event_at(line, 0, plant.props);
     let monitor = radio.monitor;
-    let outcome = check_event(event, plant.props, monitor.seen, monitor.expected);
-    match outcome {
-        Outcome::Refused(refusal) => {
-            let kind = refusal.kind;
-            Turned {
-                radio: radio.stopped(Refusal::at(kind, radio.start)),
-                lit: Lit::Dark,
-            }
-        }
+    match check_event(event, plant.props, monitor.seen, monitor.expected) {
+        Outcome::Refused(refusal) => Turned {
+            radio: radio.stopped(Refusal::at(refusal.kind, radio.start)),
+            lit: None,
+        },
         Outcome::Accepted => {
             let now = moved(
                 label, next, leave, enter, holds, count, live, monitor, event,
             );
             let shown = lamp(now);
-            let verdict = shown.verdict;
             let behind = Radio {
                 part: [0; 40],
                 len: 0,
@@ -90,7 +84,7 @@ fn ended<'a>(
             };
             Turned {
                 radio: behind,
-                lit: Lit::Verdict(verdict.number()),
+                lit: Some(shown.verdict.number()),
             }
         }
     }
@@ -114,8 +108,6 @@ pub fn end_line<'a>(
         (turn_by plant label.now next.now leave.now enter.now holds.now count live.now) whole radio }
 {
     if whole {
-        let part = radio.part;
-        let len = radio.len;
         return ended(
             plant,
             label,
@@ -126,11 +118,8 @@ pub fn end_line<'a>(
             count,
             live,
             radio,
-            &part[..len],
+            &radio.part[..radio.len],
         );
     }
-    Turned {
-        radio,
-        lit: Lit::Dark,
-    }
+    Turned { radio, lit: None }
 }

@@ -55,18 +55,9 @@ impl Radio {
         requires { self.len ≤ 40 }
         ensures { result ≡ radio_of (ear_of self) }
     {
-        let part = self.part;
-        let len = self.len;
-        let form = self.form;
-        let standing = self.standing;
-        let monitor = self.monitor;
         Radio {
-            part: joined(part, len, &part[..0], 0),
-            len,
-            start: self.start,
-            form,
-            standing,
-            monitor,
+            part: joined(self.part, self.len, &[], 0),
+            ..self
         }
     }
 
@@ -74,24 +65,13 @@ impl Radio {
     fn stopped(self, refusal: Refusal) -> Radio
         ensures { result ≡ stopped_radio self refusal }
     {
-        let form = self.form;
-        let monitor = self.monitor;
         Radio {
             part: [0; 40],
             len: 0,
-            start: self.start,
-            form,
             standing: Outcome::Refused(refusal),
-            monitor,
+            ..self
         }
     }
-}
-
-// The verdict of the event whose line a piece ended, if it ended one.
-#[derive(Clone, Copy)]
-enum Lit {
-    Dark,
-    Verdict(u8),
 }
 
 // The radio behind a scrap, and how many verdicts there were.
@@ -106,27 +86,22 @@ pub fn begins_line(radio: Radio, props: usize) -> bool
     requires { radio.len ≤ 40 }
     ensures { result ≡ kept_ok (width_of props) radio }
 {
-    let part = radio.part;
-    let len = radio.len;
-    let form = radio.form;
-    if len == 0 {
+    if radio.len == 0 {
         return true;
     }
-    if len < event_log::line_bytes(&part[..len], props) {
-        return len <= good_of(&part[..len], form, props);
-    }
-    false
+    let kept = &radio.part[..radio.len];
+    radio.len < event_log::line_bytes(kept, props) && radio.len <= good_of(kept, radio.form, props)
 }
 
-// A verdict is stored behind the others and counted.
-fn note(verdicts: &mut [u8], done: usize, lit: Lit) -> usize
+// The verdict of the event whose line a piece ended, if it ended one, is stored behind the others and counted.
+fn note(verdicts: &mut [u8], done: usize, lit: Option<u8>) -> usize
     requires { done < 2 ^ 63 }
     ensures count { result ≡ done + length (lit_of lit) }
     ensures verdicts { verdicts.new ≡ noted_at verdicts.old done (lit_of lit) }
 {
     match lit {
-        Lit::Dark => done,
-        Lit::Verdict(verdict) => {
+        None => done,
+        Some(verdict) => {
             course::store(verdicts, done, verdict);
             done + 1
         }
@@ -153,8 +128,6 @@ fn pieces(
     let mut done = 0;
     while at < scrap.len() {
         let read = piece(now, &scrap[at..], plant.props);
-        let whole = read.whole;
-        let line = read.radio;
         at += read.took;
         let turned = end_line(
             plant,
@@ -165,12 +138,11 @@ fn pieces(
             &ways.holds,
             ways.count,
             &live.words,
-            line,
-            whole,
+            read.radio,
+            read.whole,
         );
-        let lit = turned.lit;
         now = turned.radio;
-        done = note(verdicts, done, lit);
+        done = note(verdicts, done, turned.lit);
     }
     Went { radio: now, done }
 }
@@ -214,7 +186,7 @@ pub fn listen(
         verdicts.old verdicts.new result }
 {
     let clean = radio.clean();
-    if scrap.len() == 0 {
+    if scrap.is_empty() {
         return Went {
             radio: clean,
             done: 0,
@@ -224,9 +196,8 @@ pub fn listen(
     if first.whole | (first.took < scrap.len()) {
         return hear_lines(plant, fair, label, next, rule, live, radio, scrap, verdicts);
     }
-    let behind = first.radio;
     Went {
-        radio: behind,
+        radio: first.radio,
         done: 0,
     }
 }

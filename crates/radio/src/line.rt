@@ -7,12 +7,13 @@ ghost use Rattle.radio.specs.Kept.{padded};
 
 use crate::Form;
 use answers::Outcome;
+use std::array;
 
 // The form of a line, which its first byte tells: the `n` of `num=`.
 pub fn form_of(line: &[u8]) -> Form
     ensures { result ≡ form_of (is_numbered line.now) }
 {
-    if text::byte_at(line, 0) == 110 {
+    if text::byte_at(line, 0) == b'n' {
         return Form::Numbered;
     }
     Form::Plain
@@ -59,11 +60,7 @@ pub fn joined(part: [u8; 40], len: usize, rest: &[u8], took: usize) -> [u8; 40]
     requires { (len ≤ 40) × (took ≤ length rest.now) }
     ensures { result ≡ padded (take len part ++ take took rest.now) }
 {
-    let mut line = [0u8; 40];
-    for at in 0..40 {
-        line[at] = byte_of(part, len, rest, took, at);
-    }
-    line
+    array::from_fn(|at| byte_of(part, len, rest, took, at))
 }
 
 // How many bytes of a text of at most a line fit one.
@@ -71,11 +68,9 @@ pub fn good_of(line: &[u8], form: Form, props: usize) -> usize
     requires { (0 < length line.now) × (length line.now ≤ bytes_in (width_of props) line.now) }
     ensures { result ≡ good_of (width_of props) form line.now }
 {
-    let numbered = text::byte_at(line, 0) == 110;
+    let numbered = text::byte_at(line, 0) == b'n';
     if may_be(form, numbered) {
-        let read = event_log::read_log(line, props);
-        let outcome = read.outcome;
-        return match outcome {
+        return match event_log::read_log(line, props).outcome {
             Outcome::Accepted => line.len(),
             Outcome::Refused(refusal) => refusal.place,
         };

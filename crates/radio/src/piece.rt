@@ -1,7 +1,7 @@
 // A piece: as many bytes of a scrap as the line has room for, copied behind the bytes kept and read at once.
 ghost use Rattle.std.specs.Prelude.{◌≡◌, ◌<◌, length};
 ghost use Rattle.text.specs.Number.{width_of};
-ghost use Rattle.radio.specs.Kept.{lesser_of, open_piece, piece_of, Fit};
+ghost use Rattle.radio.specs.Kept.{open_piece, piece_of, Fit};
 
 use crate::Radio;
 use crate::line::{good_of, joined, size_of};
@@ -15,29 +15,16 @@ pub struct Pieced {
     pub whole: bool,
 }
 
-fn lesser(a: usize, b: usize) -> usize
-    ensures { result ≡ lesser_of a b }
-{
-    if a < b {
-        return a;
-    }
-    b
-}
-
 // Refused at the first byte that does not fit, at its place in the whole log; or kept.
 fn open_piece(radio: Radio, rest: &[u8], props: usize) -> Pieced
     requires { Fit (width_of props) radio (length rest.now) × (0 < length rest.now) }
     ensures { result ≡ open_piece (width_of props) radio rest.now }
 {
-    let part = radio.part;
-    let len = radio.len;
-    let form = radio.form;
-    let standing = radio.standing;
-    let size = size_of(part, len, rest, props);
-    let took = lesser(size - len, rest.len());
-    let end = len + took;
-    let line = joined(part, len, rest, took);
-    let good = good_of(&line[..end], form, props);
+    let size = size_of(radio.part, radio.len, rest, props);
+    let took = (size - radio.len).min(rest.len());
+    let end = radio.len + took;
+    let line = joined(radio.part, radio.len, rest, took);
+    let good = good_of(&line[..end], radio.form, props);
     if good < end {
         return Pieced {
             radio: radio.stopped(Refusal::at(Kind::LogText, radio.start + good)),
@@ -45,17 +32,12 @@ fn open_piece(radio: Radio, rest: &[u8], props: usize) -> Pieced
             whole: false,
         };
     }
-    let monitor = radio.monitor;
-    let longer = Radio {
-        part: line,
-        len: end,
-        start: radio.start,
-        form,
-        standing,
-        monitor,
-    };
     Pieced {
-        radio: longer,
+        radio: Radio {
+            part: line,
+            len: end,
+            ..radio
+        },
         took,
         whole: size <= end,
     }
@@ -66,8 +48,7 @@ pub fn piece(radio: Radio, rest: &[u8], props: usize) -> Pieced
     requires { Fit (width_of props) radio (length rest.now) × (0 < length rest.now) }
     ensures { result ≡ piece_of (width_of props) radio.standing radio rest.now }
 {
-    let standing = radio.standing;
-    match standing {
+    match radio.standing {
         Outcome::Refused(_) => Pieced {
             radio,
             took: rest.len(),

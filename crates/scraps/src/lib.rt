@@ -2,7 +2,6 @@
 #![tactic(auto)]
 
 ghost use Rattle.std.specs.Prelude.{◌≡◌, ◌+◌, ◌≤◌, length};
-ghost use Rattle.words.specs.Word.{digit};
 ghost use Rattle.course.specs.Laid.{laid};
 ghost use Rattle.scraps.specs.Calls.{held_outcome, lines_in, part_fits, room_outcome, kept_outcome, take_outcome, heard_answer, take_call, finish_call};
 
@@ -34,29 +33,24 @@ fn check_held(
 ) -> Outcome
     ensures { result ≡ held_outcome plant fair.now label.now next.now rule live monitor }
 {
-    let keeps = monitor.keeps;
-    let breaks = monitor.breaks;
     let all = Monitor {
-        seen: monitor.seen,
-        keeps: keeps.join(live),
-        breaks,
-        expected: monitor.expected,
+        keeps: monitor.keeps.join(live),
+        ..monitor
     };
-    let shown = monitor::look(plant, fair, label, next, rule, all);
-    match shown {
+    match monitor::look(plant, fair, label, next, rule, all) {
         Answer::Refused(refusal) => Outcome::Refused(refusal),
         Answer::Shown(_) => Outcome::Accepted,
     }
 }
 
 // Whether what is kept begins a line of the log and is not whole, and is no more than a log may have.
+#[tactic(auto, unfolding(crate::specs::Calls::part_fits))]
 fn part_fits(radio: Radio, props: usize) -> bool
     ensures { result ≡ part_fits props radio }
 {
-    if radio.len < Radio::PART {
-        return (radio.start <= Radio::LONGEST - radio.len) & begins_line(radio, props);
-    }
-    false
+    radio.len < Radio::PART
+        && radio.start <= Radio::LONGEST - radio.len
+        && begins_line(radio, props)
 }
 
 // 1, 2, 9 with what is kept, and then the refusal that stands.
@@ -71,38 +65,23 @@ fn check_kept(
 ) -> Outcome
     ensures { result ≡ kept_outcome plant fair.now label.now next.now rule live radio }
 {
-    let monitor = radio.monitor;
-    let standing = radio.standing;
-    let outcome = check_held(plant, fair, label, next, rule, live, monitor);
-    match outcome {
+    match check_held(plant, fair, label, next, rule, live, radio.monitor) {
         Outcome::Refused(refusal) => Outcome::Refused(refusal),
         Outcome::Accepted => {
             if part_fits(radio, plant.props) {
-                return standing;
+                return radio.standing;
             }
             Outcome::Refused(Refusal::at(Kind::Value, 0))
         }
     }
 }
 
-fn one_if(is: bool) -> usize
-    ensures { result ≡ digit is }
-{
-    if is {
-        return 1;
-    }
-    0
-}
-
 // How many line ends a scrap has.
+#[tactic(auto, using(crate::proofs::Lines::lines_by_count))]
 fn lines_in(scrap: &[u8]) -> usize
     ensures { result ≡ lines_in scrap.now }
 {
-    let mut lines = 0;
-    for i in 0..scrap.len() {
-        lines += one_if(scrap[i] == 10);
-    }
-    lines
+    scrap.iter().filter(|byte| **byte == b'\n').count()
 }
 
 // A byte for each line end, 11; and then no more bytes than a log may have, 24.
@@ -133,8 +112,7 @@ fn check_take(
 ) -> Outcome
     ensures { result ≡ take_outcome plant fair.now label.now next.now rule live radio scrap.now room }
 {
-    let outcome = check_kept(plant, fair, label, next, rule, live, radio);
-    match outcome {
+    match check_kept(plant, fair, label, next, rule, live, radio) {
         Outcome::Refused(refusal) => Outcome::Refused(refusal),
         Outcome::Accepted => check_room(scrap, room, radio.start + radio.len),
     }
@@ -188,11 +166,9 @@ pub fn take(
         },
         Outcome::Accepted => {
             let went = listen(plant, fair, label, next, rule, live, radio, scrap, verdicts);
-            let behind = went.radio;
-            let standing = behind.standing;
             Taken {
-                answer: answer_of(standing, went.done),
-                radio: behind,
+                answer: answer_of(went.radio.standing, went.done),
+                radio: went.radio,
             }
         }
     }
@@ -210,8 +186,7 @@ pub fn finish(
 ) -> Outcome
     ensures { result ≡ finish_call plant fair.now label.now next.now rule live radio }
 {
-    let outcome = check_kept(plant, fair, label, next, rule, live, radio);
-    match outcome {
+    match check_kept(plant, fair, label, next, rule, live, radio) {
         Outcome::Refused(refusal) => Outcome::Refused(refusal),
         Outcome::Accepted => {
             if radio.len == 0 {

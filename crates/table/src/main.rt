@@ -15,11 +15,9 @@ fn main(rt: HostRuntime) {
     let mut folder = files::path_buffer();
     let len = files::asked_folder(&rt, &mut folder);
     let read = read_plant(&rt, &folder[..len]);
-    let outcome = read.outcome;
-    let table = read.table;
-    match outcome {
+    match read.outcome {
         Outcome::Refused(refusal) => refuse(&rt, refusal),
-        Outcome::Accepted => show_table(&rt, table),
+        Outcome::Accepted => show_table(&rt, read.table),
     }
 }
 
@@ -27,17 +25,12 @@ fn show_table<P: Print>(to: &P, table: Table)
     requires { Lent table }
 {
     let plant = table.plant;
-    let just = plant.just;
-    let states = plant.states;
-    let fair = table.fair;
-    let label = table.label;
-    let next = table.next;
     let mut text = [0u8; Length::MOST];
     let wrote = plant_writer::write_table(
         plant,
-        &fair[..just],
-        &label[..states],
-        &next[..states],
+        &table.fair[..plant.just],
+        &table.label[..plant.states],
+        &table.next[..plant.states],
         &mut text,
     );
     match wrote {

@@ -1,11 +1,9 @@
--- `digest`: the words passed are in it.
-use Rattle.std.proofs.Common.{◌-◌, zero-le, refl, arith, add-one}
-use Rattle.explored.specs.States.{digest_to, digest_turn}
+-- `digest`: the fold over the words.
+use Rattle.std.proofs.Common.{rules, ◌+◌, ◌*◌, ◌/◌, ◌%◌, ◌≡◌, ◌∙◌, fold}
+use Rattle.explored.proofs.Folded.{digest_by_fold}
 use Rattle.explored.proofs.digest.Goals as goal
 
-pub loop-v-init : goal.loop-v-init
-unfolding digest_to
-loop-v-init c = (zero-le, refl)
-
-pub loop-v-preserved : goal.loop-v-preserved
-loop-v-preserved c = (omega arith, rw (c.entry-word.ensures, add-one) (digest_turn _ _ _ _ c.loop-v.invariant.1))
+pub returns : goal.returns
+returns c =
+    let folded : c.fold.result ≡ fold (λ made word. made % 72057594037927936 * 31 + word % 4294967296 + word / 4294967296) c.args.from c.args.words.now = search rules in
+    folded ∙ digest_by_fold c.args.words.now c.args.from (search rules)

@@ -1,18 +1,8 @@
--- `find`: none of the rows passed stands for the state.
-use Rattle.std.proofs.Common.{◌-◌, zero-le, refl, sym, ◌∙◌, arith, le_antisymm}
-use Rattle.words.specs.Below.{any_below}
-use Rattle.words.specs.Folds.{any_still, first_none, first_found}
+-- `find`: the first row that stands for the state.
+use Rattle.std.proofs.Common.{rules}
+use Rattle.joined.proofs.Ranges.{first_found_by}
+use Rattle.explored.specs.States.{same_block}
 use Rattle.explored.proofs.find.Goals as goal
 
-pub loop-r-init : goal.loop-r-init
-unfolding any_below
-loop-r-init c = (zero-le, refl)
-
-pub returns-then-same : goal.returns-then-same
-returns-then-same c = (sym (first_found _ _ _ c.loop-r-test.true c.loop-r.invariant.1 (sym c.same.ensures ∙ c.if-same.true)), omega arith)
-
-pub loop-r-preserved : goal.loop-r-preserved
-loop-r-preserved c = (omega arith, any_still _ _ c.loop-r.invariant.1 (sym c.same.ensures ∙ c.if-same.false))
-
 pub returns : goal.returns
-returns c = (sym (first_none _ _ (rw (le_antisymm c.loop-r.invariant.0 c.loop-r-test.false) at c.loop-r.invariant.1)), omega arith)
+returns c = first_found_by _ _ _ _ (same_block c.args.room.now c.args.state.now) c.find.ensures.ran (λ k b q call. search rules) c.unwrap_or.ensures

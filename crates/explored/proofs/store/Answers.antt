@@ -1,12 +1,7 @@
--- `store`: the words passed are stored.
-use Rattle.std.proofs.Common.{◌-◌, zero-le, refl, arith, length-set}
-use Rattle.explored.specs.Blocks.{stored_none, stored_turn}
+-- `store`: the block, copied into its row.
+use Rattle.std.proofs.Common.{rules, arith}
+use Rattle.explored.proofs.Stored.{stored_copied}
 use Rattle.explored.proofs.store.Goals as goal
 
-pub loop-i-init : goal.loop-i-init
-loop-i-init c = (zero-le, refl, stored_none 130 _ _ _)
-
-pub loop-i-preserved : goal.loop-i-preserved
-loop-i-preserved c =
-    let inv = c.loop-i.invariant in
-    (omega arith, simp length-set inv.1, stored_turn 130 _ _ _ _ _ _ inv.2 c.entry.ensures)
+pub returns : goal.returns
+returns c = stored_copied 130 c.args.row c.args.state.now c.args.room.now (search rules) (omega arith) c.copy_from_slice.ensures.after _ (omega arith)

@@ -1,16 +1,21 @@
 -- `word_at`: by where the word stands.
-use Rattle.std.proofs.Common.{lt-ltb, le-ltb}
+use Rattle.std.proofs.Common.{refl, ◌∙◌, arith, lt-ltb, le-ltb}
 use Rattle.explored.specs.States.{word_at}
+use Rattle.explored.proofs.Folded.{flag_digit}
 use Rattle.explored.proofs.word_at.Goals as goal
 
-pub returns-then-i-lt2 : goal.returns-then-i-lt2
+pub returns-in-0 : goal.returns-in-0
 unfolding word_at
-returns-then-i-lt2 c = rw (lt-ltb _ _ c.if-i-lt2.true) (rw c.only.ensures at c.choose.ensures)
+returns-in-0 c = rw c.in-0.is refl
 
-pub returns-then-i-lt66 : goal.returns-then-i-lt66
+pub returns-in-1 : goal.returns-in-1
 unfolding word_at
-returns-then-i-lt66 c = rw (le-ltb _ _ c.if-i-lt2.false, lt-ltb _ _ c.if-i-lt66.true) c.entry.ensures
+returns-in-1 c = rw c.in-1.is (c.from.ensures ∙ flag_digit c.args.seen)
 
-pub returns : goal.returns
+pub returns-in-2-to-65 : goal.returns-in-2-to-65
 unfolding word_at
-returns c = rw (le-ltb _ _ c.if-i-lt2.false, le-ltb _ _ c.if-i-lt66.false) c.entry-2.ensures
+returns-in-2-to-65 c = let x = c.in-2-to-65 in rw (le-ltb c.args.i 2 (omega arith), lt-ltb c.args.i 66 (omega arith)) refl
+
+pub returns-in_default : goal.returns-in_default
+unfolding word_at
+returns-in_default c = let x = c.in_default in rw (le-ltb c.args.i 2 (omega arith), le-ltb c.args.i 66 (omega arith)) c.entry.ensures

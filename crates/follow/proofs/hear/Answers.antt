@@ -6,10 +6,8 @@ use Rattle.follow.proofs.hear.Goals as goal
 pub has_event-requires : goal.has_event-requires
 has_event-requires g c = one_event _ _ _ _ _ _ _ _ _ c.take-taken.ensures.taken c.requires.1
 
-pub returns : goal.returns
-returns g c =
+pub returns-then-goes_on : goal.returns-then-goes_on
+returns-then-goes_on g c =
     let full : length c.args.radio.part ≡ 40 = search rules in
-    record {
-      longer = λ goes. omega (arith, gets_longer _ _ _ _ _ _ _ _ _ c.take-taken.ensures.taken full (sym c.goes_on-more.ensures ∙ goes), c.requires.0);
-      short = λ goes. omega (arith, gets_longer _ _ _ _ _ _ _ _ _ c.take-taken.ensures.taken full (sym c.goes_on-more.ensures ∙ goes));
-    }
+    let longer = gets_longer _ _ _ _ _ _ _ _ _ c.take-taken.ensures.taken full (sym c.goes_on.ensures ∙ c.if-goes_on.true) in
+    record { longer = λ goes. omega (arith, longer, c.requires.0); short = λ goes. omega (arith, longer) }

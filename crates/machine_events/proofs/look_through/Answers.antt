@@ -3,19 +3,20 @@ use Rattle.std.proofs.Common.{ℕ, ◌+◌, ◌≡◌, ap, ◌∙◌, arith, len
 use Rattle.columns.specs.Columns.{count_of, few_columns}
 use Rattle.machine_lookup.specs.Shape.{rows_of}
 use Rattle.machine_events.specs.Turns.{no_props, many_props, no_row, no_room, with_room}
+use Rattle.machine_events.proofs.look_through.Goals.{then-props-lt1-via-then-props-lt1, then-props-lt1-via-else-props-lt1+then-props-gt3}
 use Rattle.machine_events.proofs.look_through.Goals as goal
 
 pub returns-then-props-lt1 : goal.returns-then-props-lt1
 returns-then-props-lt1 c =
     let a = c.args in
-    let both = no_props a.machine.now a.props a.row a.events.now a.shown.now c.if-props-lt1.true c.refused.ensures in
-    record { answer = both.0; shown = both.1 }
-
-pub returns-then-props-gt3 : goal.returns-then-props-gt3
-returns-then-props-gt3 c =
-    let a = c.args in
-    let both = many_props a.machine.now a.props a.row a.events.now a.shown.now c.if-props-gt3.true c.refused-then-props-gt3.ensures in
-    record { answer = both.0; shown = both.1 }
+    elim c.then-props-lt1.branch [
+      | then-props-lt1-via-then-props-lt1 w ↦
+          let both = no_props a.machine.now a.props a.row a.events.now a.shown.now w.if-props-lt1.true c.refused.ensures in
+          record { answer = both.0; shown = both.1 }
+      | then-props-lt1-via-else-props-lt1+then-props-gt3 w ↦
+          let both = many_props a.machine.now a.props a.row a.events.now a.shown.now w.if-props-gt3.true c.refused.ensures in
+          record { answer = both.0; shown = both.1 }
+    ]
 
 pub overflow_add-width : goal.overflow_add-width
 overflow_add-width c = record { fits = omega (arith, c.count-width.ensures, (few_columns c.args.props).1) }

@@ -7,10 +7,10 @@ pub returns-in-Refused : goal.returns-in-Refused
 returns-in-Refused c =
     let a = c.args in
     held_refused a.plant a.fair.now a.label.now a.next.now a.rule a.live a.monitor (search rules) (search rules)
-    c.join.ensures c.look-shown.ensures c.in-Refused.is
+    c.join.ensures c.look.ensures c.in-Refused.is
 
 pub returns-in-Shown : goal.returns-in-Shown
 returns-in-Shown c =
     let a = c.args in
     held_shown a.plant a.fair.now a.label.now a.next.now a.rule a.live a.monitor (search rules) (search rules)
-    c.join.ensures c.look-shown.ensures c.in-Shown.is
+    c.join.ensures c.look.ensures c.in-Shown.is

@@ -1,18 +1,8 @@
--- `rounds::leader`: none of the rows passed leads on to r.
-use Rattle.std.proofs.Common.{zero-le, refl, sym, arith, le_antisymm}
-use Rattle.words.specs.Below.{any_below}
-use Rattle.words.specs.Folds.{any_still, first_none, first_found}
+-- `rounds::leader`: the first row that leads on to r.
+use Rattle.std.proofs.Common.{rules}
+use Rattle.joined.proofs.Ranges.{first_found_by}
+use Rattle.joined.specs.Table.{leads_on}
 use Rattle.joined.proofs.rounds.leader.Goals as goal
 
-pub loop-s-init : goal.loop-s-init
-unfolding any_below
-loop-s-init c = (zero-le, refl)
-
-pub returns-then-leads_on : goal.returns-then-leads_on
-returns-then-leads_on c = (sym (first_found _ _ _ c.loop-s-test.true c.loop-s.invariant.1 (cc)), omega arith)
-
-pub loop-s-preserved : goal.loop-s-preserved
-loop-s-preserved c = (omega arith, any_still _ _ c.loop-s.invariant.1 (cc))
-
 pub returns : goal.returns
-returns c = (sym (first_none _ _ (rw (le_antisymm c.loop-s.invariant.0 c.loop-s-test.false) at c.loop-s.invariant.1)), omega arith)
+returns c = first_found_by _ _ _ _ (λ s. leads_on c.args.cells.now c.args.class.now c.args.fresh.now c.args.c s c.args.r) c.find.ensures.ran (λ k b q call. search rules) c.unwrap_or.ensures

@@ -1,16 +1,10 @@
--- `rounds::refine`: the rows passed have their leaders, which are found among those found before.
-use Rattle.std.proofs.Common.{zero-le, refl, ◌∙◌, arith, length-set}
-use Rattle.joined.specs.Written.{written_none, written_turn}
+-- `rounds::refine`: a row's leader is found among those found before.
+use Rattle.std.proofs.Common.{◌∙◌, arith}
+use Rattle.joined.specs.Written.{written_turn}
 use Rattle.joined.specs.Finer.{finer_turn}
 use Rattle.joined.proofs.rounds.refine.Goals as goal
 
-pub loop-r-init : goal.loop-r-init
-loop-r-init c = (zero-le, refl, written_none _ _)
-
 pub loop-r-preserved : goal.loop-r-preserved
 loop-r-preserved c =
-    let inv = c.loop-r.invariant in (
-      omega arith,
-      simp length-set inv.1,
-      written_turn _ _ _ _ _ inv.2 (c.leader-first.ensures.0 ∙ finer_turn _ _ _ _ _ _ (omega arith) inv.2),
-    )
+    let inv = c.loop-r.invariant in
+    written_turn _ _ _ _ _ inv (c.leader.ensures.0 ∙ finer_turn _ _ _ _ _ _ (omega arith) inv)

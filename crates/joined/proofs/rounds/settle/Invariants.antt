@@ -4,8 +4,8 @@ use Rattle.joined.specs.Table.{leaders_in}
 use Rattle.joined.specs.Settle.{Settling}
 use Rattle.joined.proofs.rounds.settle.Given as goal
 
-abbrev pub invariant-loop-fresh : goal.invariant-loop-fresh
-invariant-loop-fresh l = (length l.class ≡ length l.initial.class) × (length l.fresh ≡ length l.initial.fresh) × Settling l.outputs l.cells l.n l.c l.initial.class l.initial.fresh l.class l.fresh
+abbrev pub invariant-loop-class : goal.invariant-loop-class
+invariant-loop-class l = (length l.class ≡ length l.initial.class) × (length l.fresh ≡ length l.initial.fresh) × Settling l.outputs l.cells l.n l.c l.initial.class l.initial.fresh l.class l.fresh
 
-abbrev pub decreases-loop-fresh : goal.decreases-loop-fresh
-decreases-loop-fresh l = l.n - leaders_in l.n l.class
+abbrev pub decreases-loop-class : goal.decreases-loop-class
+decreases-loop-class l = l.n - leaders_in l.n l.class

@@ -1,9 +1,0 @@
--- `put_cells`: each is within the line, which keeps its length.
-use Rattle.std.proofs.Common.{◌-◌, ◌≡◌, length}
-use Rattle.machine.proofs.rows.put_cells.Given as goal
-
-abbrev pub invariant-loop-k : goal.invariant-loop-k
-invariant-loop-k l = (l.k-end ≡ length l.bytes) × (length l.line ≡ length l.initial.line)
-
-abbrev pub decreases-loop-k : goal.decreases-loop-k
-decreases-loop-k l = l.k-end - l.k
