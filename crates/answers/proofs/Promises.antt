@@ -1,5 +1,5 @@
 -- Two answers that stand for the same on paper are equal. So a promise about `paper` determines the whole answer.
-use Rattle.std.specs.Prelude.{ℕ, ◌≡◌, refl, Bool, true, false, List, [], ◌∷◌, get_or}
+use Rattle.std.specs.Prelude.{ℕ, ◌≡◌, refl, Bool, true, false, List, [], ◌∷◌, get_or, Ok, Err}
 use Rattle.std.proofs.Common.{arith, ap}
 use Rattle.meaning.specs.Verdict.{verdict_of}
 use Rattle.answers.specs.declared.Verdict.{Verdict}
@@ -31,12 +31,8 @@ use Rattle.answers.specs.declared.Kind.TheVariants.{
   Stretches,
   LogLength,
 }
-use Rattle.answers.specs.declared.Answer.{Answer}
-use Rattle.answers.specs.declared.Answer.TheVariants.{Shown}
-use Rattle.answers.specs.declared.Answer.TheVariants as Answers
-use Rattle.answers.specs.declared.Outcome.{Outcome}
-use Rattle.answers.specs.declared.Outcome.TheVariants.{Accepted}
-use Rattle.answers.specs.declared.Outcome.TheVariants as Outcomes
+use Rattle.answers.specs.Results.{Answer}
+use Rattle.answers.specs.Results.{Outcome}
 use Rattle.answers.specs.declared.Refusal.{Refusal}
 use Rattle.answers.specs.Paper.{Paper, verdict, refused, accepted, number_of, kind_number, refusal, paper, outcome, verdict_for}
 
@@ -110,16 +106,16 @@ one_refusal q r same =
     λ k. record { kind = one_kind q.kind r.kind number k; place = place k }
 
 pub one_answer : (a b : Answer) → paper a ≡ paper b → a ≡ b
-one_answer (Shown i) (Shown j) same =
+one_answer (Ok i) (Ok j) same =
     let number : number_of i.verdict ≡ number_of j.verdict = cc in
     let left : i.left ≡ j.left = cc in
-    λ k. Shown (record { verdict = one_verdict i.verdict j.verdict number k; left = left k })
-one_answer (Shown i) (Answers.Refused r) same = absurd (apart (λ e. omega arith) same)
-one_answer (Answers.Refused r) (Shown j) same = absurd (apart (λ e. omega arith) same)
-one_answer (Answers.Refused q) (Answers.Refused r) same = ap Answers.Refused (one_refusal q r same)
+    λ k. Ok (record { verdict = one_verdict i.verdict j.verdict number k; left = left k })
+one_answer (Ok i) (Err r) same = absurd (apart (λ e. omega arith) same)
+one_answer (Err r) (Ok j) same = absurd (apart (λ e. omega arith) same)
+one_answer (Err q) (Err r) same = ap Err (one_refusal q r same)
 
 pub one_outcome : (a b : Outcome) → outcome a ≡ outcome b → a ≡ b
-one_outcome Accepted Accepted same = refl
-one_outcome Accepted (Outcomes.Refused r) same = absurd (apart (λ e. omega arith) same)
-one_outcome (Outcomes.Refused r) Accepted same = absurd (apart (λ e. omega arith) same)
-one_outcome (Outcomes.Refused q) (Outcomes.Refused r) same = ap Outcomes.Refused (one_refusal q r same)
+one_outcome (Ok _) (Ok _) same = refl
+one_outcome (Ok _) (Err r) same = absurd (apart (λ e. omega arith) same)
+one_outcome (Err r) (Ok _) same = absurd (apart (λ e. omega arith) same)
+one_outcome (Err q) (Err r) same = ap Err (one_refusal q r same)

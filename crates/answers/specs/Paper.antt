@@ -1,5 +1,5 @@
 -- What an answer is on paper, case by case (01, Refusal numbers, and 01, The shape each place takes); the promises are made in these numbers.
-use Rattle.std.specs.Prelude.{ℕ, Bool, true, false, List, []}
+use Rattle.std.specs.Prelude.{ℕ, Bool, true, false, List, [], Ok, Err}
 use Rattle.answers.specs.declared.Verdict.{Verdict}
 use Rattle.answers.specs.declared.Verdict.TheVariants.{Inconclusive, True, False, OutOfModel}
 use Rattle.answers.specs.declared.Kind.{Kind}
@@ -30,12 +30,8 @@ use Rattle.answers.specs.declared.Kind.TheVariants.{
   LogLength,
 }
 use Rattle.answers.specs.declared.Refusal.{Refusal}
-use Rattle.answers.specs.declared.Answer.{Answer}
-use Rattle.answers.specs.declared.Answer.TheVariants.{Shown}
-use Rattle.answers.specs.declared.Answer.TheVariants as Answers
-use Rattle.answers.specs.declared.Outcome.{Outcome}
-use Rattle.answers.specs.declared.Outcome.TheVariants.{Accepted}
-use Rattle.answers.specs.declared.Outcome.TheVariants as Outcomes
+use Rattle.answers.specs.Results.{Answer}
+use Rattle.answers.specs.Results.{Outcome}
 
 -- what stands on paper: a verdict's number with `left`, a refusal's number with its place, or that a call was accepted, with the numbers it
 -- gives (none where the value stands beside)
@@ -82,12 +78,12 @@ abbrev pub refusal : Refusal → Paper
 refusal r = refused (kind_number r.kind) r.place
 
 abbrev pub paper : Answer → Paper
-paper (Shown l) = verdict (number_of l.verdict) l.left
-paper (Answers.Refused r) = refusal r
+paper (Ok l) = verdict (number_of l.verdict) l.left
+paper (Err r) = refusal r
 
 abbrev pub outcome : Outcome → Paper
-outcome Accepted = accepted []
-outcome (Outcomes.Refused r) = refusal r
+outcome (Ok _) = accepted []
+outcome (Err r) = refusal r
 
 -- the verdict, by whether the first set is occupied, and the second
 abbrev pub verdict_for : Bool → Bool → Verdict
@@ -101,4 +97,4 @@ abbrev pub refused_at : Kind → ℕ → Refusal
 refused_at k p = record { kind = k; place = p }
 
 abbrev pub shown : Bool → Bool → ℕ → Answer
-shown keeps breaks left = Shown (record { verdict = verdict_for keeps breaks; left = left })
+shown keeps breaks left = Ok (record { verdict = verdict_for keeps breaks; left = left })

@@ -186,15 +186,4 @@ impl Refusal {
 }
 
 // The answer of a call that shows the lamp.
-#[derive(Clone, Copy, Debug, PartialEq, Eq)]
-pub enum Answer {
-    Shown(Lamp),
-    Refused(Refusal),
-}
-
-// The answer of a call whose value, if it is accepted, stands beside it.
-#[derive(Clone, Copy, Debug, PartialEq, Eq)]
-pub enum Outcome {
-    Accepted,
-    Refused(Refusal),
-}
+pub type Answer = Result<Lamp, Refusal>;

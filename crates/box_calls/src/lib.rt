@@ -11,13 +11,13 @@ ghost use Rattle.opened.specs.Opened.{opened_of};
 ghost use Rattle.slate.specs.Box.{held_in};
 ghost use Rattle.box_calls.specs.Calls.{opened_shown, box_opened, looked_in, stepped_in, box_after, WentOn};
 
-use answers::{Answer, Outcome};
+use answers::{Answer, Refusal};
 use event_log::Event;
 use monitor::Watched;
 use opened::open_texts;
 pub use parts::{fairs_of, states_of};
 use slate::{Held, held_in};
-use witness::Witnessed;
+use witness::Lengths;
 
 // Reads a table and a rule, and opens a monitor in the box, whatever was in it.
 pub fn open(table: &[u8], rule: &[u8], words: &mut [u64; 384]) -> Answer
@@ -25,18 +25,14 @@ pub fn open(table: &[u8], rule: &[u8], words: &mut [u64; 384]) -> Answer
     ensures words { words.new ≡ box_opened words.old (opened_of table.now rule.now) }
 {
     let opened = open_texts(table, rule);
-    match opened.outcome {
-        Outcome::Refused(refusal) => Answer::Refused(refusal),
-        Outcome::Accepted => {
-            *words = slate::stored(Held {
-                table: opened.table,
-                rule: opened.rule,
-                live: opened.live,
-                monitor: opened.monitor,
-            });
-            Answer::Shown(advance::lamp(opened.monitor))
-        }
-    }
+    opened.outcome?;
+    *words = slate::stored(Held {
+        table: opened.table,
+        rule: opened.rule,
+        live: opened.live,
+        monitor: opened.monitor,
+    });
+    Ok(advance::lamp(opened.monitor))
 }
 
 // What the lamp shows for the monitor in the box.
@@ -80,14 +76,14 @@ pub fn step(words: &mut [u64; 384], event: Event) -> Answer
     ensures words { words.new ≡ box_after words.old (stepped_in (held_in words.old) event) }
 {
     let made = step_from(held_in(*words), event);
-    if let Answer::Shown(_) = made.answer {
+    if let Ok(_) = made.answer {
         *words = slate::with_monitor(*words, made.monitor);
     }
     made.answer
 }
 
 // How a run goes on that keeps the rule, or that breaks it.
-pub fn goes_on(words: &[u64; 384], keeps: bool, states: &mut [u8]) -> Witnessed
+pub fn goes_on(words: &[u64; 384], keeps: bool, states: &mut [u8]) -> Result<Lengths, Refusal>
     ensures { WentOn (held_in words.now) keeps states.old states.new result }
 {
     let held = held_in(*words);

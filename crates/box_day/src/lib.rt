@@ -44,7 +44,7 @@ pub fn note(words: &mut [u64; 384], day: &mut [u64; 260], event: Event) -> Answe
     ensures day { day.new ≡ day_noted day.old (noted_in (held_in words.old) (sheet_in day.old) event) }
 {
     let noted = note_from(held_in(*words), sheet_in(*day), event);
-    if let Answer::Shown(_) = noted.answer {
+    if let Ok(_) = noted.answer {
         *words = with_monitor(*words, noted.monitor);
         *day = with_sheet(*day, noted.sheet);
     }

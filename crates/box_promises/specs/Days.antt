@@ -1,6 +1,6 @@
 -- A DAY OF A C PROGRAM. From the texts on, whatever events are noted, those that are refused among them: the words of the day hold the sheet worked out afresh from the events that were
 -- accepted, and the box the monitor beside it: `notes_right`.
-use Rattle.std.specs.Prelude.{ℕ, ◌+◌, ◌-◌, ◌≡◌, Bool, cond, eqb, ltb, length, get_or, set}
+use Rattle.std.specs.Prelude.{ℕ, ◌+◌, ◌-◌, ◌≡◌, Bool, cond, eqb, ltb, length, get_or, set, Ok, Err}
 use Rattle.std.proofs.Math.Path.{refl, ap, ap₂, subst}
 use Rattle.std.proofs.Common.{sym, ◌∙◌, length-set}
 use Rattle.std.proofs.Math.Bool.{true, false}
@@ -11,9 +11,7 @@ use Rattle.words.specs.Lists.{length_list}
 use Rattle.pairs.specs.declared.Pairs.{Pairs}
 use Rattle.model.specs.Sets.{PairSet}
 use Rattle.answers.specs.declared.Verdict.{Verdict}
-use Rattle.answers.specs.declared.Answer as answers
-use Rattle.answers.specs.declared.Answer.TheVariants as Answers
-use Rattle.answers.specs.declared.Outcome.TheVariants.{Accepted}
+use Rattle.answers.specs.Results as answers
 use Rattle.plant.specs.declared.Table.{Table}
 use Rattle.plant.specs.Table.{plant_of}
 use Rattle.syntax.specs.Value.{formula_of}
@@ -100,9 +98,9 @@ module _ (w d : List ℕ) (e : Event) where
   new_long = long_all _ _ _ (numbered_by m.seen m.expected e) _ (length_list 64 (line_in d))
 
   by_answer : (a : answers.Answer) → stepped.answer ≡ a → (full : Bool) → HeldBy (note_by stepped a full m s (λ v. new))
-  by_answer (Answers.Refused r) g full = (refl, refl)
-  by_answer (Answers.Shown l) g true = (refl, refl)
-  by_answer (Answers.Shown l) g false = (
+  by_answer (Err r) g full = (refl, refl)
+  by_answer (Ok l) g true = (refl, refl)
+  by_answer (Ok l) g false = (
     ap held_in (sym (ap (λ (a : answers.Answer). box_by a (with_monitor w stepped.monitor) w) g)) ∙ step_held w e,
     stored_back d new new_long,
   )
@@ -125,7 +123,7 @@ noted_all x es = foldl note_in x es
 
 -- ---- from the texts on
 
-module _ (table rule : List ℕ) (ok : (opened_of table rule).outcome ≡ Accepted) where
+module _ (table rule : List ℕ) (ok : (opened_of table rule).outcome ≡ Ok tt) where
   abbrev o : Opened
   o = opened_of table rule
 

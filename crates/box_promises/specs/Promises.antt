@@ -1,7 +1,7 @@
 -- WHAT IS PROMISED OF THE BOX. From the texts on, whatever steps come: `opens_right`, `opened_right`, `steps_right`, `answers_right`. A refusal leaves it: `refused_stays`, `unopened_stays`.
 -- Nothing is cut off silently: `beyond_look`, `beyond_step`, `beyond_run`.
 use Prim.Native.Nat.{ℕ, ◌+◌}
-use Rattle.std.specs.Prelude.{◌≡◌, Bool, true, false, length}
+use Rattle.std.specs.Prelude.{◌≡◌, Bool, true, false, length, Ok, Err}
 use Rattle.std.proofs.Math.Path.{refl, ap}
 use Rattle.std.proofs.Common.{sym, ◌∙◌, arith}
 use mathlib.Core.List.{List, [], ◌∷◌, ◌++◌, foldl, foldl-append}
@@ -12,10 +12,8 @@ use Rattle.words.specs.Lists.{length_list, length_words}
 use Rattle.model.specs.Monitor as model
 use Rattle.answers.specs.declared.Kind.{Kind}
 use Rattle.answers.specs.declared.Kind.TheVariants.{Counts, Bits, TableText, RuleLength, RuleText, Proposition, Nodes, Parts, Value, IllegalEvent, Room, LogText, NoPair, File, Rows, Number, NoKey, SheetText, NotNewer, NotHeld, ClosingEdition, RunLength, Stretches, LogLength}
-use Rattle.answers.specs.declared.Answer as answers
-use Rattle.answers.specs.declared.Answer.TheVariants as Answers
-use Rattle.answers.specs.declared.Outcome.{Outcome}
-use Rattle.answers.specs.declared.Outcome.TheVariants.{Accepted, Refused}
+use Rattle.answers.specs.Results as answers
+use Rattle.answers.specs.Results.{Outcome}
 use Rattle.answers.specs.Paper.{kind_number, refused_at}
 use Rattle.answers.specs.Chain.{refused_as, chain_accepts}
 use Rattle.pairs.specs.declared.Pairs.{Pairs}
@@ -81,24 +79,24 @@ pub refused_stays : (w : List ℕ) (s : Watched) → ((shown_as s.answer).number
 refused_stays w s = go s.answer
   where
     go : (a : answers.Answer) → ((shown_as a).number ≡ 0 → ⊥) → box_by a (with_monitor w s.monitor) w ≡ w
-    go (Answers.Shown l) other = absurd (other refl)
-    go (Answers.Refused r) other = refl
+    go (Ok l) other = absurd (other refl)
+    go (Err r) other = refl
 
 -- and any other was taken
 pub taken_changes : (w : List ℕ) (s : Watched) → (shown_as s.answer).number ≡ 0 → box_after w s ≡ with_monitor w s.monitor
 taken_changes w s = go s.answer
   where
     go : (a : answers.Answer) → (shown_as a).number ≡ 0 → box_by a (with_monitor w s.monitor) w ≡ with_monitor w s.monitor
-    go (Answers.Shown l) zero = refl
-    go (Answers.Refused r) zero = absurd (some_number r.kind zero)
+    go (Ok l) zero = refl
+    go (Err r) zero = absurd (some_number r.kind zero)
 
 -- texts that are refused leave it too
 pub unopened_stays : (w : List ℕ) (o : Opened) → ((shown_as (opened_shown o)).number ≡ 0 → ⊥) → box_opened w o ≡ w
 unopened_stays w o = go o.outcome
   where
     go : (x : Outcome) → ((shown_as (shown_or x (lamp_in (model_of o.monitor)))).number ≡ 0 → ⊥) → or_old x (stored_of (held_of o)) w ≡ w
-    go Accepted other = absurd (other refl)
-    go (Refused r) other = refl
+    go (Ok _) other = absurd (other refl)
+    go (Err r) other = refl
 
 -- ---- nothing is cut off silently: words that do not fit are a table that counts no proposition, and every call refuses it by 1
 
@@ -114,11 +112,11 @@ module _ (w : List ℕ) (beyond : fits_in w ≡ false) where
   unfolding input_outcome
   no_input = rw no_table refl
 
-  pub beyond_look : looked_in h ≡ Answers.Refused (refused_at Counts 0)
+  pub beyond_look : looked_in h ≡ Err (refused_at Counts 0)
   unfolding looked_in look_call
   beyond_look = rw no_input refl
 
-  pub beyond_step : (e : Event) → (stepped_in h e).answer ≡ Answers.Refused (refused_at Counts 0)
+  pub beyond_step : (e : Event) → (stepped_in h e).answer ≡ Err (refused_at Counts 0)
   unfolding stepped_in step_call
   beyond_step e = rw no_input refl
 
@@ -150,7 +148,7 @@ module _ (w : List ℕ) (e : Event) where
   new = foldl (model.step_of (plant_of t.plant (fair_in t) (label_in t) (next_in t)) (formula_of (held_in w).rule) (held_in w).live.words) (model_of m) (brings m.seen m.expected e)
 
   -- what is accepted counts a proposition
-  checks_fit : checks ≡ Accepted → fits_in w ≡ true
+  checks_fit : checks ≡ Ok tt → fits_in w ≡ true
   unfolding input_outcome
   checks_fit ok =
       let first = ((chain_accepts _ _).0 ok).0 in
@@ -169,9 +167,9 @@ module _ (w : List ℕ) (e : Event) where
       n : ℕ
       n = number_of e.num m.expected + 1
 
-      go : (o : Outcome) → (o ≡ Accepted → fits_in w ≡ true) → held_in (box_after w (watched o m n new)) ≡ changed (held_in w) (watched o m n new).monitor
-      go Accepted fit = monitor_back w (monitor_of n new) (fit refl) (record { keeps = new_long.0; breaks = new_long.1 })
-      go (Refused r) fit = refl
+      go : (o : Outcome) → (o ≡ Ok tt → fits_in w ≡ true) → held_in (box_after w (watched o m n new)) ≡ changed (held_in w) (watched o m n new).monitor
+      go (Ok _) fit = monitor_back w (monitor_of n new) (fit refl) (record { keeps = new_long.0; breaks = new_long.1 })
+      go (Err r) fit = refl
 
 -- ---- from the texts on
 
@@ -183,11 +181,11 @@ pub record Begun (o : Opened) : Type 0 where
   pub lamp : shown_as (opened_shown o) ≡ shown_as (open_call o.table.plant (fair_in o.table) (label_in o.table) (next_in o.table) o.rule o.live).answer
 
 abbrev pub BegunIfOpened : Opened → Type 0
-BegunIfOpened o = o.outcome ≡ Accepted → Begun o
+BegunIfOpened o = o.outcome ≡ Ok tt → Begun o
 
-begun_by_lem : (o : Outcome) (x : Opened) → (o ≡ Accepted → BegunIfOpened x) → BegunIfOpened (or_refused o x)
-begun_by_lem Accepted x h = h refl
-begun_by_lem (Refused r) x h = λ e. absurd (let z : ◌≡◌ {A = ℕ} 0 1 = cc in omega arith)
+begun_by_lem : (o : Outcome) (x : Opened) → (o ≡ Ok tt → BegunIfOpened x) → BegunIfOpened (or_refused o x)
+begun_by_lem (Ok _) x h = h refl
+begun_by_lem (Err r) x h = λ e. absurd (let z : ◌≡◌ {A = ℕ} 0 1 = cc in omega arith)
 
 rule_begun : (t : Table) (rule : Rule) → length rule.nodes ≡ 32 → BegunIfOpened (rule_opened t (fair_in t) (label_in t) (next_in t) rule)
 unfolding rule_opened
@@ -214,7 +212,7 @@ opened_begun table rule =
 unfoldable pub box_through : List ℕ → List Event → List ℕ
 box_through w es = foldl (λ w e. box_after w (stepped_in (held_in w) e)) w es
 
-module _ (table rule : List ℕ) (ok : (opened_of table rule).outcome ≡ Accepted) where
+module _ (table rule : List ℕ) (ok : (opened_of table rule).outcome ≡ Ok tt) where
   abbrev o : Opened
   o = opened_of table rule
 

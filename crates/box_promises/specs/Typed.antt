@@ -1,5 +1,5 @@
 -- What was opened has the types of what a box holds, so that it is read back as it was stored.
-use Rattle.std.specs.Prelude.{ℕ, zero, suc, ◌-◌, ◌^◌, ◌≤◌, ◌<◌, ◌≡◌, refl, true, false, List, [], ◌∷◌, ◌++◌, length, get_or, replicate}
+use Rattle.std.specs.Prelude.{ℕ, zero, suc, ◌-◌, ◌^◌, ◌≤◌, ◌<◌, ◌≡◌, refl, true, false, List, [], ◌∷◌, ◌++◌, length, get_or, replicate, Ok, Err}
 use Rattle.std.proofs.Common.{ap, arith, lt_of_lt_of_le, ltb-true, pow_mono}
 use Rattle.std.proofs.Math.Decide.{dec_lt}
 use Rattle.std.proofs.Math.ListN.{get_or-eq_default}
@@ -9,8 +9,7 @@ use Rattle.meaning.specs.Step.{every}
 use Rattle.meaning.specs.Formula.{Formula, size}
 use Rattle.words.specs.Lists.{length_list, list_at}
 use Rattle.words.specs.Truth.{and_says}
-use Rattle.answers.specs.declared.Outcome.{Outcome}
-use Rattle.answers.specs.declared.Outcome.TheVariants.{Accepted, Refused}
+use Rattle.answers.specs.Results.{Outcome}
 use Rattle.plant.specs.declared.Table.{Table}
 use Rattle.plant.specs.Read.{table_read, table_of}
 use Rattle.plant.specs.Promises.{Reading, reading, accepted, beyond, misformed}
@@ -61,10 +60,10 @@ read_tabled t a =
       | no l ↦ rw (get_or-eq_default t.label 0 {n = i} (omega arith)) (omega arith)
     ]
 
-tabled : (s : List ℕ) → (table_read s).outcome ≡ Accepted → Tabled (table_read s).table
+tabled : (s : List ℕ) → (table_read s).outcome ≡ Ok tt → Tabled (table_read s).table
 tabled s = by_case (reading s)
   where
-    by_case : Reading s → (table_read s).outcome ≡ Accepted → Tabled (table_read s).table
+    by_case : Reading s → (table_read s).outcome ≡ Ok tt → Tabled (table_read s).table
     by_case (accepted t a f is) ok = rw is (read_tabled t a)
     by_case (beyond t w b f is) ok = absurd (let z : ◌≡◌ {A = ℕ} 0 1 = cc in omega arith)
     by_case (misformed i p is) ok = absurd (let z : ◌≡◌ {A = ℕ} 0 1 = cc in omega arith)
@@ -104,7 +103,7 @@ record Ruled (r : Rule) : Type 0 where
 value_ruled : (q : ℕ) → q ≤ 16 → (f : Formula) → size f ≤ 32 → Below q f → Ruled (rule_of f)
 value_ruled q few f small below = record { nodes = full_value f small; codes = low_codes q few (postfix f) ((below_nodes q f).1 below) (32 - size f) }
 
-ruled : (t : Table) → t.plant.props ≤ 16 → (text : List ℕ) → (rule_read t.plant (fair_in t) (label_in t) (next_in t) text).outcome ≡ Accepted
+ruled : (t : Table) → t.plant.props ≤ 16 → (text : List ℕ) → (rule_read t.plant (fair_in t) (label_in t) (next_in t) text).outcome ≡ Ok tt
     → Ruled (rule_read t.plant (fair_in t) (label_in t) (next_in t) text).rule
 ruled t few text ok =
     let read = rule_read t.plant (fair_in t) (label_in t) (next_in t) text in
@@ -112,19 +111,19 @@ ruled t few text ok =
     rw takes.is (value_ruled t.plant.props few takes.formula takes.small takes.below)
 
 -- the nodes of a rule that was read
-pub rule_full : (table text : List ℕ) → (table_read table).outcome ≡ Accepted
-    → let t = (table_read table).table in (rule_read t.plant (fair_in t) (label_in t) (next_in t) text).outcome ≡ Accepted
+pub rule_full : (table text : List ℕ) → (table_read table).outcome ≡ Ok tt
+    → let t = (table_read table).table in (rule_read t.plant (fair_in t) (label_in t) (next_in t) text).outcome ≡ Ok tt
     → length (rule_read t.plant (fair_in t) (label_in t) (next_in t) text).rule.nodes ≡ 32
 rule_full table text ok good = (ruled (table_read table).table (tabled table ok).few text good).nodes
 
 -- ---- what was opened
 
 abbrev TypedIfOpened : Opened → Type 0
-TypedIfOpened o = o.outcome ≡ Accepted → Typed (held_of o)
+TypedIfOpened o = o.outcome ≡ Ok tt → Typed (held_of o)
 
-typed_by : (o : Outcome) (x : Opened) → (o ≡ Accepted → TypedIfOpened x) → TypedIfOpened (or_refused o x)
-typed_by Accepted x h = h refl
-typed_by (Refused r) x h = λ e. absurd (let z : ◌≡◌ {A = ℕ} 0 1 = cc in omega arith)
+typed_by : (o : Outcome) (x : Opened) → (o ≡ Ok tt → TypedIfOpened x) → TypedIfOpened (or_refused o x)
+typed_by (Ok _) x h = h refl
+typed_by (Err r) x h = λ e. absurd (let z : ◌≡◌ {A = ℕ} 0 1 = cc in omega arith)
 
 rule_typed : (t : Table) → Tabled t → (rule : Rule) → Ruled rule → TypedIfOpened (rule_opened t (fair_in t) (label_in t) (next_in t) rule)
 unfolding rule_opened
@@ -143,7 +142,7 @@ rule_typed t a rule r =
       sets = record { keeps = (fits.held.sets true).long; breaks = (fits.held.sets false).long };
     })
 
-pub opened_typed : (table rule : List ℕ) → (opened_of table rule).outcome ≡ Accepted → Typed (held_of (opened_of table rule))
+pub opened_typed : (table rule : List ℕ) → (opened_of table rule).outcome ≡ Ok tt → Typed (held_of (opened_of table rule))
 unfolding opened_of parts_opened
 opened_typed table rule =
     let t = (table_read table).table in

@@ -1,6 +1,6 @@
 -- WHAT THE CALLS ON SCRAPS ANSWER for what a box holds, and the box behind them.
 use Rattle.std.specs.Prelude.{ℕ, Bool, cond, List}
-use Rattle.answers.specs.declared.Outcome.{Outcome}
+use Rattle.answers.specs.Results.{Outcome}
 use Rattle.plant.specs.declared.Plant.{Plant}
 use Rattle.opened.specs.Opened.{fair_in, label_in, next_in}
 use Rattle.controller.specs.declared.LogAnswer.{LogAnswer}

@@ -8,7 +8,7 @@ ghost use Rattle.sides.specs.declared.Monitor.{Monitor};
 ghost use Rattle.course.specs.Laid.{laid};
 ghost use Rattle.box_radio.specs.Radios.{plant_where, took_from, end_from, box_taken, took_in, end_in};
 
-use answers::Outcome;
+use answers::Refusal;
 use box_calls::{fairs_of, states_of};
 use controller::LogAnswer;
 use plant::Plant;
@@ -50,7 +50,7 @@ fn take_from(held: Held, radio: Radio, fits: bool, scrap: &[u8], verdicts: &mut 
 
 // The parts that are lent are those that the table counts.
 #[tactic(auto, unfolding(crate::specs::Radios::end_from))]
-fn end_from(held: Held, radio: Radio, fits: bool) -> Outcome
+fn end_from(held: Held, radio: Radio, fits: bool) -> Result<(), Refusal>
     ensures { result ≡ end_from held radio fits }
 {
     let states = states_of(held.table);
@@ -81,7 +81,7 @@ pub fn take(words: &mut [u64; 384], scrap: &[u8], verdicts: &mut [u8]) -> LogAns
 }
 
 // Whether the log may end where it stands.
-pub fn finish(words: &[u64; 384]) -> Outcome
+pub fn finish(words: &[u64; 384]) -> Result<(), Refusal>
     ensures { result ≡ end_in words.now }
 {
     let held = held_in(*words);

@@ -1,11 +1,10 @@
 -- A BOX THAT TAKES A LOG IN SCRAPS: its claims, proved. What is kept behind each scrap is read from the words as it was put in, so the next call goes on from it.
-use Rattle.std.specs.Prelude.{ℕ, ◌≤◌, ◌<◌, ◌≡◌, true, false, get_or}
+use Rattle.std.specs.Prelude.{ℕ, ◌≤◌, ◌<◌, ◌≡◌, true, false, get_or, Ok, Err}
 use Rattle.std.proofs.Math.Path.{refl, ap}
 use Rattle.std.proofs.Common.{sym, subst, ◌∙◌, inl}
 use mathlib.Core.List.{List, [], ◌∷◌, ◌++◌}
 use Rattle.std.proofs.Math.ListN.{length}
-use Rattle.answers.specs.declared.Outcome.{Outcome}
-use Rattle.answers.specs.declared.Outcome.TheVariants.{Accepted, Refused}
+use Rattle.answers.specs.Results.{Outcome}
 use Rattle.answers.specs.Chain.{chain_accepts}
 use Rattle.text.specs.Number.{width_of}
 use Rattle.plant.specs.declared.Plant.{Plant}
@@ -41,16 +40,16 @@ use Rattle.box_scraps.specs.Claims.{box_behind, box_said, Bytes, BoxTakes, BoxRi
 use Rattle.box_scraps.specs.Front.{front_held, opened_silent, opened_stands}
 
 -- an accepted table counts a proposition
-some_props : (p : Plant) (fair label next : List ℕ) (rule : Rule) → input_outcome p fair label next rule ≡ Accepted → 1 ≤ p.props
+some_props : (p : Plant) (fair label next : List ℕ) (rule : Rule) → input_outcome p fair label next rule ≡ Ok tt → 1 ≤ p.props
 unfolding input_outcome
 some_props p fair label next rule ok = ((accepted_exactly p fair label next).0 ((chain_accepts _ _).0 ok).0).1.some_props
 
 -- what was taken, in whole or up to a refused event or byte, is stored
 taken_stored : (o : Outcome) (n : ℕ) (new old : List ℕ) → box_by (heard_answer o n) new old ≡ new
-taken_stored Accepted n new old = refl
-taken_stored (Refused r) n new old = refl
+taken_stored (Ok _) n new old = refl
+taken_stored (Err r) n new old = refl
 
-module _ (table rule : List ℕ) (ok : (opened_of table rule).outcome ≡ Accepted) where
+module _ (table rule : List ℕ) (ok : (opened_of table rule).outcome ≡ Ok tt) where
   abbrev o : Opened
   o = opened_of table rule
 
@@ -94,8 +93,8 @@ module _ (table rule : List ℕ) (ok : (opened_of table rule).outcome ≡ Accept
 
       by : (x : Outcome) → take_outcome P (fair_in o.table) (label_in o.table) (next_in o.table) o.rule o.live r s.bytes s.room ≡ x
           → Keeps (box_taken w (took_by x r heard).taken) (took_by x r heard).taken.radio
-      by (Refused y) e = k
-      by Accepted e =
+      by (Err y) e = k
+      by (Ok _) e =
           let g = fitting P (fair_in o.table) (label_in o.table) (next_in o.table) o.rule o.live r
           (take_parts P (fair_in o.table) (label_in o.table) (next_in o.table) o.rule o.live r s.bytes s.room e).0 in
           let given = (input_accepted P (fair_in o.table) (label_in o.table) (next_in o.table) o.rule full).0 g.input in

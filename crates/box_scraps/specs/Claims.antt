@@ -2,11 +2,10 @@
 -- proof.
 -- `box_opened` (box_calls/specs/Calls), `took_in`, `box_taken` and `end_in` (box_radio/specs/Radios) are by the contracts of these functions the box that is opened, what a scrap gives, the
 -- box behind it, and what the end says. Each reads the words anew, so a box that is stored between two of them and loaded again goes on as if nothing had happened.
-use Rattle.std.specs.Prelude.{ℕ, ◌≤◌, ◌<◌, ◌≡◌, List, [], ◌∷◌, ◌++◌, length, get_or}
+use Rattle.std.specs.Prelude.{ℕ, ◌≤◌, ◌<◌, ◌≡◌, List, [], ◌∷◌, ◌++◌, length, get_or, Ok}
 use Rattle.meaning.specs.Formula.{Formula}
 use Rattle.meaning.specs.Run.{Plant}
 use Rattle.meaning.specs.Limits.{AcceptedTable}
-use Rattle.answers.specs.declared.Outcome.TheVariants.{Accepted}
 use Rattle.opened.specs.Opened.{fair_in, label_in, next_in, opened_of}
 use Rattle.transcript.specs.Said.{bytes}
 use Rattle.front_door.specs.FrontDoor.{SaysTable}
@@ -43,7 +42,7 @@ pub record TakesAsCalls (table rule box : List ℕ) (ss : List Scrap) : Type 0 w
 
 -- A BOX OPENED BY TEXTS, whatever its words were before, and any scraps at all, refused ones among them
 abbrev pub BoxTakes : Type 0
-BoxTakes = (table rule : List ℕ) → (opened_of table rule).outcome ≡ Accepted → (w : List ℕ) (ss : List Scrap) → Bytes ss → TakesAsCalls table rule (box_opened w (opened_of table rule)) ss
+BoxTakes = (table rule : List ℕ) → (opened_of table rule).outcome ≡ Ok tt → (w : List ℕ) (ss : List Scrap) → Bytes ss → TakesAsCalls table rule (box_opened w (opened_of table rule)) ss
 
 -- FROM THE BYTES HANDED TO THE BOX to what the runs of the plant dictate: texts that say an accepted table and a rule, and scraps with room for their verdicts, of a log that is not too
 -- long

@@ -1,11 +1,11 @@
 -- What an accepted table and rule give the code behind the checks: tables worked out from the rule are right, and their loops may run.
+use Rattle.std.specs.Prelude.{Ok}
 use mathlib.Core.Path.{◌≡◌, sym, ap, ◌∙◌}
 use mathlib.Core.List.{List}
 use Prim.Native.Nat.{ℕ}
 use lib.ListN.{length}
 use Rattle.meaning.specs.Formula.{parts}
-use Rattle.answers.specs.declared.Outcome.{Outcome}
-use Rattle.answers.specs.declared.Outcome.TheVariants.{Accepted}
+use Rattle.answers.specs.Results.{Outcome}
 use Rattle.plant.specs.declared.Plant.{Plant}
 use Rattle.plant.specs.Table.{plant_of}
 use Rattle.syntax.specs.declared.Rule.{Rule}
@@ -20,7 +20,7 @@ use Rattle.checks.specs.Input.{Input, input_accepted}
 
 -- the checks accepted
 pub accepted : (p : Plant) (fair label next : List ℕ) (rule : Rule) → length rule.nodes ≡ 32
-    → {o : Outcome} → o ≡ input_outcome p fair label next rule → o ≡ Accepted → Input p fair label next rule
+    → {o : Outcome} → o ≡ input_outcome p fair label next rule → o ≡ Ok tt → Input p fair label next rule
 accepted p fair label next rule full e f = (input_accepted p fair label next rule full).0 (sym e ∙ f)
 
 module _ {p : Plant} {fair label next : List ℕ} {rule : Rule} (i : Input p fair label next rule) where

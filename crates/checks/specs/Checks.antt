@@ -3,7 +3,7 @@ use Rattle.std.specs.Prelude.{ℕ, Bool, List, eqb, ltb, get_or}
 use Rattle.words.specs.Word.{without_of, only_of}
 use Rattle.words.specs.Below.{union_below}
 use Rattle.answers.specs.declared.Kind.TheVariants.{Value}
-use Rattle.answers.specs.declared.Outcome.{Outcome}
+use Rattle.answers.specs.Results.{Outcome}
 use Rattle.answers.specs.Chain.{and_then, unless}
 use Rattle.plant.specs.declared.Plant.{Plant}
 use Rattle.plant.specs.Table.{table_outcome}

@@ -1,10 +1,9 @@
 -- What it means that the table and the rule handed in are accepted.
-use Rattle.std.specs.Prelude.{ℕ, ◌≤◌, ◌≡◌, ◌↔◌, List, length}
+use Rattle.std.specs.Prelude.{ℕ, ◌≤◌, ◌≡◌, ◌↔◌, List, length, Ok}
 use Rattle.std.proofs.Common.{sym, ap, subst}
 use Rattle.meaning.specs.Formula.{parts, size}
 use Rattle.meaning.specs.Limits.{AcceptedTable}
 use Rattle.answers.specs.declared.Kind.TheVariants.{Value}
-use Rattle.answers.specs.declared.Outcome.TheVariants.{Accepted}
 use Rattle.answers.specs.Chain.{unless, chain_accepts, unless_accepts}
 use Rattle.plant.specs.declared.Plant.{Plant}
 use Rattle.plant.specs.Table.{plant_of, table_outcome}
@@ -32,7 +31,7 @@ module _ (p : Plant) (fair label next : List ℕ) (rule : Rule) where
     pub below : Below p.props (formula_of rule)
 
   -- from the two checks
-  pub given : table_outcome p fair label next ≡ Accepted → RuleValue rule p.props → Input
+  pub given : table_outcome p fair label next ≡ Ok tt → RuleValue rule p.props → Input
   given e v =
       let (fairs, table) = (accepted_exactly p fair label next).0 e in
       let f = sym (formula_is v) in
@@ -48,16 +47,16 @@ module _ (p : Plant) (fair label next : List ℕ) (rule : Rule) where
   -- the array of a rule has 32 nodes
   module _ (full : length rule.nodes ≡ 32) where
     -- accepted exactly if it is such
-    pub input_accepted : (input_outcome p fair label next rule ≡ Accepted) ↔ Input
+    pub input_accepted : (input_outcome p fair label next rule ≡ Ok tt) ↔ Input
     unfolding input_outcome
     input_accepted = (there, back)
       where
-        there : input_outcome p fair label next rule ≡ Accepted → Input
+        there : input_outcome p fair label next rule ≡ Ok tt → Input
         there e =
             let (first, second) = (chain_accepts (table_outcome p fair label next) (unless (valid_of rule p.props) Value)).0 e in
             given first ((valid_exactly rule p.props full).0 ((unless_accepts (valid_of rule p.props) Value).0 second))
 
-        back : Input → input_outcome p fair label next rule ≡ Accepted
+        back : Input → input_outcome p fair label next rule ≡ Ok tt
         back i =
             (chain_accepts (table_outcome p fair label next) (unless (valid_of rule p.props) Value)).1 (
               (accepted_exactly p fair label next).1 (i.fairs, i.table),

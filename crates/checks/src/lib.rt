@@ -4,25 +4,26 @@
 ghost use Rattle.std.specs.Prelude.{◌≡◌};
 ghost use Rattle.checks.specs.Checks.{pairs_fit, input_outcome};
 
-use answers::{Kind, Outcome, Refusal};
+use answers::{Kind, Refusal};
 use plant::Plant;
 use syntax::Rule;
 
 // 1, 2, and 9 for the rule.
 #[tactic(auto, unfolding(crate::specs::Checks::input_outcome))]
-pub fn check_input(plant: Plant, fair: &[u64], label: &[u16], next: &[u64], rule: Rule) -> Outcome
+pub fn check_input(
+    plant: Plant,
+    fair: &[u64],
+    label: &[u16],
+    next: &[u64],
+    rule: Rule,
+) -> Result<(), Refusal>
     ensures { result ≡ input_outcome plant fair.now label.now next.now rule }
 {
-    let checked = plant::check_table(plant, fair, label, next);
-    match checked {
-        Outcome::Refused(refusal) => Outcome::Refused(refusal),
-        Outcome::Accepted => {
-            if rule_value::is_valid(rule, plant.props) {
-                return Outcome::Accepted;
-            }
-            Outcome::Refused(Refusal::at(Kind::Value, 0))
-        }
+    plant::check_table(plant, fair, label, next)?;
+    if !rule_value::is_valid(rule, plant.props) {
+        return Err(Refusal::at(Kind::Value, 0));
     }
+    Ok(())
 }
 
 // Whether the pairs are of the table's states and the rule's valuations.

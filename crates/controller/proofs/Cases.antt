@@ -1,4 +1,5 @@
 -- What a whole log is answered and where it ends, by what each check says and by how its course went.
+use Rattle.std.specs.Prelude.{Ok, Err}
 use Prim.Native.Nat.{ℕ, ◌*◌, ◌≤◌, ◌<◌}
 use native.Mathlib.Nat.{le_trans}
 use native.Mathlib.Omega.{arith}
@@ -9,8 +10,7 @@ use lib.ListN.{length, length-map}
 use borrow.Author.Tests.{le-leb, lt-leb, leb-true}
 use Rattle.answers.specs.declared.Kind.TheVariants.{Room}
 use Rattle.answers.specs.declared.Refusal.{Refusal}
-use Rattle.answers.specs.declared.Outcome.{Outcome}
-use Rattle.answers.specs.declared.Outcome.TheVariants.{Accepted, Refused}
+use Rattle.answers.specs.Results.{Outcome}
 use Rattle.answers.specs.Paper.{refused_at}
 use Rattle.text.specs.Number.{width_of}
 use Rattle.text.specs.Lines.{line_start, start_is, lines_inside}
@@ -41,20 +41,20 @@ module _ (props : ℕ) (log : List ℕ) (room : ℕ) where
   checked r = and_then r.outcome (unless (leb r.lines room) Room)
 
   module _ {read : LogRead} (e : read ≡ log_read (width_of props) log) where
-    pub misformed : {r : Refusal} → read.outcome ≡ Refused r → Refused r ≡ log_checked props log room
+    pub misformed : {r : Refusal} → read.outcome ≡ Err r → Err r ≡ log_checked props log room
     unfolding log_checked
-    misformed {r} f = subst (λ (x : LogRead). Refused r ≡ checked x) e (rw f refl)
+    misformed {r} f = subst (λ (x : LogRead). Err r ≡ checked x) e (rw f refl)
 
-    pub short : {r : Refusal} → read.outcome ≡ Accepted → room < read.lines → r ≡ refused_at Room 0 → Refused r ≡ log_checked props log room
+    pub short : {r : Refusal} → read.outcome ≡ Ok tt → room < read.lines → r ≡ refused_at Room 0 → Err r ≡ log_checked props log room
     unfolding log_checked
-    short {r} f few is = subst (λ (x : LogRead). Refused r ≡ checked x) e (rw (f, lt-leb _ _ few, is) refl)
+    short {r} f few is = subst (λ (x : LogRead). Err r ≡ checked x) e (rw (f, lt-leb _ _ few, is) refl)
 
-    pub enough : read.outcome ≡ Accepted → read.lines ≤ room → Accepted ≡ log_checked props log room
+    pub enough : read.outcome ≡ Ok tt → read.lines ≤ room → (Ok tt) ≡ log_checked props log room
     unfolding log_checked
-    enough f much = subst (λ (x : LogRead). Accepted ≡ checked x) e (rw (f, le-leb _ _ much) refl)
+    enough f much = subst (λ (x : LogRead). (Ok tt) ≡ checked x) e (rw (f, le-leb _ _ much) refl)
 
   -- behind the checks there is a byte for each line
-  pub log_fits : {o : Outcome} → o ≡ log_checked props log room → o ≡ Accepted → whole_lines (width_of props) log ≤ room
+  pub log_fits : {o : Outcome} → o ≡ log_checked props log room → o ≡ Ok tt → whole_lines (width_of props) log ≤ room
   unfolding log_checked
   log_fits e f =
       let read = log_read (width_of props) log in
@@ -80,7 +80,7 @@ module _ (table rule : List ℕ) {o : Opened} (e : o ≡ opened_of table rule) w
   pub lent_by : Lent o.table
   lent_by = subst (λ (x : Opened). Lent x.table) (sym e) (opened_lent table rule)
 
-  pub fits_by : o.outcome ≡ Accepted → Fits o
+  pub fits_by : o.outcome ≡ Ok tt → Fits o
   fits_by f = subst Fits (sym e) (opened_fits table rule (ap (λ (x : Opened). x.outcome) (sym e) ∙ f))
 
 -- ---- the course of the log
@@ -101,15 +101,15 @@ module _ (o : Opened) (log : List ℕ) where
         lines_inside bytes (length log) w.done (omega (arith, wide, (line_fixed (is_numbered log) width).some))
         (rw wide (omega (arith, told.few, told.done, ap (λ (x : Went). x.done) f.went)))
 
-    pub ends_so : {a : LogAnswer} → a ≡ end_at (w.done * bytes) w.outcome w.done → record { answer = a; table = o.table; rule = o.rule; last = w.monitor } ≡ end_in Accepted o log
+    pub ends_so : {a : LogAnswer} → a ≡ end_at (w.done * bytes) w.outcome w.done → record { answer = a; table = o.table; rule = o.rule; last = w.monitor } ≡ end_in (Ok tt) o log
     ends_so {a} e = λ i. record { answer = answer i; table = o.table; rule = o.rule; last = (f.went i).monitor }
       where
-        answer : a ≡ (heard_in Accepted o log).answer
+        answer : a ≡ (heard_in (Ok tt) o log).answer
         answer = rw (wide, ← start_is (bytes_in width log) w.done) at e ∙ ap (λ (x : Went). end_at (line_start (bytes_in width log) x.done) x.outcome x.done) f.went
 
   -- with a byte for each line there is room for all verdicts
-  pub heard_so : {before now : List ℕ} {e : LogEnd} → whole_lines width log ≤ length before → e ≡ end_in Accepted o log → now ≡ laid (verdict_bytes (course_from o log).lamps) before
-      → Says (heard_in Accepted o log) before now e.answer
+  pub heard_so : {before now : List ℕ} {e : LogEnd} → whole_lines width log ≤ length before → e ≡ end_in (Ok tt) o log → now ≡ laid (verdict_bytes (course_from o log).lamps) before
+      → Says (heard_in (Ok tt) o log) before now e.answer
   heard_so {before} room e is = record {
     answer = ap (λ (x : LogEnd). x.answer) e;
     bytes = is ∙ laid_over (verdict_bytes (course_from o log).lamps) before (rw length-map (le_trans told.few room));
@@ -128,12 +128,12 @@ end_from_lem table rule log {o} e f is =
 
 -- the table and the rule are those that were opened, so the table's parts can be lent, and the rule is not too long
 table_stands : (x : Outcome) (o : Opened) (log : List ℕ) → (end_in x o log).table ≡ o.table
-table_stands Accepted o log = refl
-table_stands (Refused r) o log = refl
+table_stands (Ok _) o log = refl
+table_stands (Err r) o log = refl
 
 rule_stands : (x : Outcome) (o : Opened) (log : List ℕ) → (end_in x o log).rule ≡ o.rule
-rule_stands Accepted o log = refl
-rule_stands (Refused r) o log = refl
+rule_stands (Ok _) o log = refl
+rule_stands (Err r) o log = refl
 
 module _ (table rule log : List ℕ) {e : LogEnd} (is : e ≡ end_of table rule log) where
   abbrev checked_by : Outcome

@@ -1,11 +1,10 @@
 -- WHAT A WHOLE LOG IS ANSWERED: the texts are opened, the log and the buffer checked, and then the public step is taken line after line, up to the first event
 -- that is refused. And WHERE IT ENDS: what stands behind that, with no buffer.
-use Rattle.std.specs.Prelude.{ℕ, ◌≡◌, List, [], leb}
+use Rattle.std.specs.Prelude.{ℕ, ◌≡◌, List, [], leb, Ok, Err}
 use Rattle.words.specs.Over.{over}
 use Rattle.answers.specs.declared.Kind.TheVariants.{Room}
 use Rattle.answers.specs.declared.Refusal.{Refusal}
-use Rattle.answers.specs.declared.Outcome.{Outcome}
-use Rattle.answers.specs.declared.Outcome.TheVariants as Outcomes
+use Rattle.answers.specs.Results.{Outcome}
 use Rattle.answers.specs.Paper.{refused_at}
 use Rattle.text.specs.Number.{width_of}
 use Rattle.text.specs.Lines.{line_start}
@@ -33,8 +32,8 @@ course_from o log = course_of o.table.plant (fair_in o.table) (label_in o.table)
 
 -- how many events there were; or why the next one is refused, at the offset of its line, and how many were taken before it
 abbrev pub end_at : ℕ → Outcome → ℕ → LogAnswer
-end_at offset Outcomes.Accepted done = Watched (record { count = done })
-end_at offset (Outcomes.Refused r) done = Stopped (record { refusal = refused_at r.kind offset; event = done })
+end_at offset (Ok _) done = Watched (record { count = done })
+end_at offset (Err r) done = Stopped (record { refusal = refused_at r.kind offset; event = done })
 
 -- how a course ends whose lines have so many bytes each, and the bytes of its verdicts
 abbrev pub heard_by : ℕ → Course → Heard
@@ -42,8 +41,8 @@ heard_by bytes c = record { answer = end_at (line_start bytes c.went.done) c.wen
 
 -- behind the checks: a refusal writes nothing
 abbrev pub heard_in : Outcome → Opened → List ℕ → Heard
-heard_in Outcomes.Accepted o log = heard_by (bytes_in (width_of o.table.plant.props) log) (course_from o log)
-heard_in (Outcomes.Refused r) o log = record { answer = Refused r; bytes = [] }
+heard_in (Ok _) o log = heard_by (bytes_in (width_of o.table.plant.props) log) (course_from o log)
+heard_in (Err r) o log = record { answer = Refused r; bytes = [] }
 
 -- the table's and the rule's checks come first
 abbrev pub heard_from : Opened → List ℕ → ℕ → Heard
@@ -70,8 +69,8 @@ end_by o bytes c = record { answer = (heard_by bytes c).answer; table = o.table;
 
 -- behind the checks
 abbrev pub end_in : Outcome → Opened → List ℕ → LogEnd
-end_in Outcomes.Accepted o log = end_by o (bytes_in (width_of o.table.plant.props) log) (course_from o log)
-end_in (Outcomes.Refused r) o log = end_refused o r
+end_in (Ok _) o log = end_by o (bytes_in (width_of o.table.plant.props) log) (course_from o log)
+end_in (Err r) o log = end_refused o r
 
 abbrev pub end_from : Opened → List ℕ → LogEnd
 end_from o log = end_in (and_then o.outcome (log_read (width_of o.table.plant.props) log).outcome) o log

@@ -2,9 +2,8 @@
 // which is what a closing verdict and a neighbour's report are judged by.
 #![tactic(auto)]
 
-ghost use Rattle.std.specs.Prelude.{◌≡◌, length};
+ghost use Rattle.std.specs.Prelude.{◌≡◌, length, Ok};
 ghost use Rattle.words.specs.Over.{over};
-ghost use Rattle.answers.specs.declared.Outcome.TheVariants.{Accepted};
 ghost use Rattle.text.specs.Number.{width_of};
 ghost use Rattle.event_log.specs.Read.{log_read};
 ghost use Rattle.course.specs.Laid.{laid};
@@ -13,7 +12,7 @@ ghost use Rattle.opened.specs.Lent.{Lent};
 ghost use Rattle.opened.specs.Fits.{Fits};
 ghost use Rattle.controller.specs.Whole.{Says, course_from, log_checked, end_at, heard_in, heard_of, end_refused, end_in, end_of};
 
-use answers::{Kind, Outcome, Refusal};
+use answers::{Kind, Refusal};
 use opened::{Opened, open_texts};
 use pairs::Pairs;
 use plant::{Plant, Table};
@@ -60,24 +59,24 @@ pub fn watch_log(table: &[u8], rule: &[u8], log: &[u8], verdicts: &mut [u8]) -> 
     let opened = open_texts(table, rule);
     let outcome = opened.outcome;
     match outcome {
-        Outcome::Refused(refusal) => LogAnswer::Refused(refusal),
-        Outcome::Accepted => with_opened(opened, log, verdicts),
+        Err(refusal) => LogAnswer::Refused(refusal),
+        Ok(()) => with_opened(opened, log, verdicts),
     }
 }
 
 // The form of the log, 12, and then a byte for each of its lines, 11.
-fn check_log(log: &[u8], props: usize, room: usize) -> Outcome
+fn check_log(log: &[u8], props: usize, room: usize) -> Result<(), Refusal>
     ensures { result ≡ log_checked props log.now room }
 {
     let read = event_log::read_log(log, props);
     let outcome = read.outcome;
     match outcome {
-        Outcome::Refused(refusal) => Outcome::Refused(refusal),
-        Outcome::Accepted => {
+        Err(refusal) => Err(refusal),
+        Ok(()) => {
             if read.lines <= room {
-                return Outcome::Accepted;
+                return Ok(());
             }
-            Outcome::Refused(Refusal::at(Kind::Room, 0))
+            Err(Refusal::at(Kind::Room, 0))
         }
     }
 }
@@ -92,8 +91,8 @@ fn with_opened(opened: Opened, log: &[u8], verdicts: &mut [u8]) -> LogAnswer
     let plant = table.plant;
     let outcome = check_log(log, plant.props, verdicts.len());
     match outcome {
-        Outcome::Refused(refusal) => LogAnswer::Refused(refusal),
-        Outcome::Accepted => {
+        Err(refusal) => LogAnswer::Refused(refusal),
+        Ok(()) => {
             let end = follow_log(opened, log, verdicts);
             end.answer
         }
@@ -107,8 +106,8 @@ pub fn to_end(table: &[u8], rule: &[u8], log: &[u8]) -> LogEnd
     let opened = open_texts(table, rule);
     let outcome = opened.outcome;
     match outcome {
-        Outcome::Refused(refusal) => refused(opened, refusal),
-        Outcome::Accepted => end_of(opened, log),
+        Err(refusal) => refused(opened, refusal),
+        Ok(()) => end_of(opened, log),
     }
 }
 
@@ -123,8 +122,8 @@ fn end_of(opened: Opened, log: &[u8]) -> LogEnd
     let outcome = read.outcome;
     let mut none = [0u8; 0];
     match outcome {
-        Outcome::Refused(refusal) => refused(opened, refusal),
-        Outcome::Accepted => follow_log(opened, log, &mut none),
+        Err(refusal) => refused(opened, refusal),
+        Ok(()) => follow_log(opened, log, &mut none),
     }
 }
 
@@ -146,7 +145,7 @@ fn refused(opened: Opened, refusal: Refusal) -> LogEnd
 // The log's lines. Of what is shown of an event the verdict alone is kept, where there is a byte for it.
 fn follow_log(opened: Opened, log: &[u8], verdicts: &mut [u8]) -> LogEnd
     requires { Lent opened.table × Fits opened }
-    ensures end { result ≡ end_in Accepted opened log.now }
+    ensures end { result ≡ end_in (Ok tt) opened log.now }
     ensures verdicts { verdicts.new ≡ laid (verdict_bytes (course_from opened log.now).lamps) verdicts.old }
 {
     let table: Table = opened.table;
@@ -188,12 +187,12 @@ fn follow_log(opened: Opened, log: &[u8], verdicts: &mut [u8]) -> LogEnd
 }
 
 // How a log ended behind so many events; the line of the next one is at `offset`.
-fn answer_at(outcome: Outcome, done: usize, offset: usize) -> LogAnswer
+fn answer_at(outcome: Result<(), Refusal>, done: usize, offset: usize) -> LogAnswer
     ensures { result ≡ end_at offset outcome done }
 {
     match outcome {
-        Outcome::Accepted => LogAnswer::Watched(Events { count: done }),
-        Outcome::Refused(refusal) => {
+        Ok(()) => LogAnswer::Watched(Events { count: done }),
+        Err(refusal) => {
             let kind = refusal.kind;
             LogAnswer::Stopped(Stop {
                 refusal: Refusal::at(kind, offset),

@@ -1,17 +1,15 @@
 -- The course by what a rule says is the course by the calls; and what callers ask of a course.
 use Prim.Native.Nat.{ℕ, zero, suc, ◌+◌}
 use Rattle.std.proofs.Math.Nat.{zero-add, suc-add}
-use Rattle.std.specs.Prelude.{◌≡◌, List, length}
+use Rattle.std.specs.Prelude.{◌≡◌, List, length, Ok, Err}
 use Rattle.std.proofs.Math.Path.{refl, ap}
 use Rattle.std.proofs.Common.{sym, subst, ◌∙◌}
 use Rattle.pairs.specs.declared.Pairs.{Pairs}
 use Rattle.model.specs.Sets.{PairSet}
 use Rattle.model.specs.Monitor as model
 use Rattle.answers.specs.declared.Refusal.{Refusal}
-use Rattle.answers.specs.declared.Answer.{Answer}
-use Rattle.answers.specs.declared.Answer.TheVariants as Answers
-use Rattle.answers.specs.declared.Outcome.{Outcome}
-use Rattle.answers.specs.declared.Outcome.TheVariants.{Accepted, Refused}
+use Rattle.answers.specs.Results.{Answer}
+use Rattle.answers.specs.Results.{Outcome}
 use Rattle.plant.specs.declared.Plant.{Plant}
 use Rattle.syntax.specs.declared.Rule.{Rule}
 use Rattle.event_log.specs.declared.Event.{Event}
@@ -37,12 +35,12 @@ use Rattle.course.specs.Course.{Course, takes, number_in, go_on, course_to, cour
 
 -- an answer tells nothing of the monitor
 takes_monitor : (c : Course) (n : ℕ) (w : Watched) (a : Answer) → (takes c n w a).went.monitor ≡ w.monitor
-takes_monitor c n w (Answers.Shown l) = refl
-takes_monitor c n w (Answers.Refused r) = refl
+takes_monitor c n w (Ok l) = refl
+takes_monitor c n w (Err r) = refl
 
 module _ (step : Monitor → Event → Watched) (m : Monitor) (event : ℕ → Event) where
   -- behind a refusal nothing more happens
-  pub stays : (n k : ℕ) {r : Refusal} → (course_to step m event n).went.outcome ≡ Refused r → course_to step m event (k + n) ≡ course_to step m event n
+  pub stays : (n k : ℕ) {r : Refusal} → (course_to step m event n).went.outcome ≡ Err r → course_to step m event (k + n) ≡ course_to step m event n
   unfolding course_to
   stays n zero e = rw zero-add refl
   stays n (suc k) e =
@@ -67,8 +65,8 @@ module _ (p : Plant) (fair label next : List ℕ) (rule : Rule) (given : Input p
       new = taken_right (T p fair label next rule) (f p fair label next rule) given.table given.few rule (right given) live.words fits m held.sets e
 
       shown : (o : Outcome) → turn_of o m (monitor_of (number_in m e + 1) after) ≡ watched o m (number_in m e + 1) after
-      shown Accepted = refl
-      shown (Refused r) = refl
+      shown (Ok _) = refl
+      shown (Err r) = refl
 
   module _ (m : Monitor) (held : Held p fair label next rule m) (event : ℕ → Event) where
     -- the monitor stays one of the table and the rule
@@ -78,8 +76,8 @@ module _ (p : Plant) (fair label next : List ℕ) (rule : Rule) (given : Input p
     held_at (suc n) = by (course_to calls m event n) (held_at n) (course_to calls m event n).went.outcome
       where
         by : (c : Course) → Held p fair label next rule c.went.monitor → (o : Outcome) → Held p fair label next rule (go_on calls c (event n) o).went.monitor
-        by c h Accepted = rw takes_monitor (stays_held p fair label next rule given live fits c.went.monitor h (event n))
-        by c h (Refused r) = h
+        by c h (Ok _) = rw takes_monitor (stays_held p fair label next rule given live fits c.went.monitor h (event n))
+        by c h (Err r) = h
 
     -- so the two courses are one
     pub as_called : (n : ℕ) → course_to (turn p label next (ways_of label rule) live) m event n ≡ course_to calls m event n
@@ -91,8 +89,8 @@ module _ (p : Plant) (fair label next : List ℕ) (rule : Rule) (given : Input p
       where
         by : (c : Course) → Held p fair label next rule c.went.monitor → (o : Outcome)
             → go_on (turn p label next (ways_of label rule) live) c (event n) o ≡ go_on calls c (event n) o
-        by c h Accepted = ap (λ (w : Watched). takes c (number_in c.went.monitor (event n)) w w.answer) (turn_is c.went.monitor h (event n))
-        by c h (Refused r) = refl
+        by c h (Ok _) = ap (λ (w : Watched). takes c (number_in c.went.monitor (event n)) w w.answer) (turn_is c.went.monitor h (event n))
+        by c h (Err r) = refl
 
 -- ---- for code: by what the rule says, which was worked out
 

@@ -1,5 +1,5 @@
 -- What the loop over a log has done behind n lines, and that it goes on, stops and ends as the definition says.
-use Rattle.std.specs.Prelude.{ℕ, suc, ◌+◌, ◌-◌, ◌%◌, ◌^◌, ◌<◌, ◌≡◌, Bool, true, false, cond, List, [], ◌∷◌, ◌++◌, map, length, set}
+use Rattle.std.specs.Prelude.{ℕ, suc, ◌+◌, ◌-◌, ◌%◌, ◌^◌, ◌<◌, ◌≡◌, Bool, true, false, cond, List, [], ◌∷◌, ◌++◌, map, length, set, Ok, Err}
 use Rattle.std.proofs.Common.{add-one, arith, ap, subst, ◌∙◌, length-append}
 use Rattle.std.proofs.Math.Path.{refl}
 use Rattle.std.proofs.Math.Bool.{So}
@@ -8,8 +8,7 @@ use Rattle.std.proofs.lemmas.List.{map-append, length-map}
 use Rattle.pairs.specs.declared.Pairs.{Pairs}
 use Rattle.answers.specs.declared.Lamp.{Lamp}
 use Rattle.answers.specs.declared.Refusal.{Refusal}
-use Rattle.answers.specs.declared.Outcome.{Outcome}
-use Rattle.answers.specs.declared.Outcome.TheVariants.{Accepted, Refused}
+use Rattle.answers.specs.Results.{Outcome}
 use Rattle.answers.specs.Paper.{number_of}
 use Rattle.plant.specs.declared.Plant.{Plant}
 use Rattle.event_log.specs.declared.Event.{Event}
@@ -27,22 +26,22 @@ use Rattle.course.specs.Course.{Course, takes, number_in, course_to, turn_of, tu
 use Rattle.course.proofs.CourseRight.{stays}
 
 -- a number that is accepted fits 32 bits
-pub accepted_number : (e : Event) (props : ℕ) (seen : Bool) (expected : ℕ) → event_outcome e props seen expected ≡ Accepted → numbers.number_of e.num expected < 2 ^ 32
+pub accepted_number : (e : Event) (props : ℕ) (seen : Bool) (expected : ℕ) → event_outcome e props seen expected ≡ Ok tt → numbers.number_of e.num expected < 2 ^ 32
 unfolding event_outcome
 accepted_number e props seen expected g = ((in_turn_says seen expected (numbers.number_of e.num expected)).0 (go _ _ (legal_of e props) (in_turn seen expected (numbers.number_of e.num expected)) g)).number
   where
     accepts : Outcome → Bool
-    accepts Accepted = true
-    accepts (Refused r) = false
+    accepts (Ok _) = true
+    accepts (Err r) = false
 
-    go : (r s : Refusal) (b c : Bool) → cond b (cond c Accepted (Refused r)) (Refused s) ≡ Accepted → So c
+    go : (r s : Refusal) (b c : Bool) → cond b (cond c (Ok tt) (Err r)) (Err s) ≡ Ok tt → So c
     go r s true true h = refl
     go r s true false h = absurd (false≢true (ap accepts h))
     go r s false c h = absurd (false≢true (ap accepts h))
 
 -- the course as it stands where no event was refused
 abbrev standing : Monitor → List Lamp → List ℕ → Course
-standing m ls ns = record { went = record { outcome = Accepted; done = length ls; monitor = m }; lamps = ls; numbers = ns }
+standing m ls ns = record { went = record { outcome = Ok tt; done = length ls; monitor = m }; lamps = ls; numbers = ns }
 
 -- one byte more behind those of the lamps
 byte_more : (F : Lamp → ℕ) (ls : List Lamp) (old : List ℕ) (shown : Lamp) {n b : ℕ} → length ls ≡ n → b ≡ F shown → set (laid (map F ls) old) n b ≡ laid (map F (ls ++ shown ∷ [])) old
@@ -82,14 +81,14 @@ module _ (p : Plant) (label next : List ℕ) (w : Ways) (live : Pairs) (m : Moni
     unfolding course_to
     on o checked = rw (g.is, ← line, checked) refl
 
-    pub goes_on : {new : Monitor} {shown : Lamp} {k : ℕ} → event_outcome e p.props now.seen now.expected ≡ Accepted → k ≡ number_in now e → new ≡ taken_in label next w live.words now e
+    pub goes_on : {new : Monitor} {shown : Lamp} {k : ℕ} → event_outcome e p.props now.seen now.expected ≡ Ok tt → k ≡ number_in now e → new ≡ taken_in label next w live.words now e
         → shown ≡ lamp_in (model_of new)
         → {verdicts' lefts' numbers' : List ℕ} → verdicts' ≡ set verdicts n (number_of shown.verdict) → lefts' ≡ set lefts n (shown.left % 256) → numbers' ≡ set numbers n k
         → Gone (n + 1) new verdicts' lefts' numbers'
     goes_on {new} {shown} {k} checked number moves shows ev el en = record {
       lamps = g.lamps ++ shown ∷ [];
       named = g.named ++ k ∷ [];
-      is = rw add-one (on Accepted checked ∙ rw (← moves, ← shows, ← number) (ap (λ (j : ℕ). record { went = record { outcome = Accepted; done = j; monitor = new }; lamps = g.lamps ++ shown ∷ []; numbers = g.named ++ k ∷ [] }) grows));
+      is = rw add-one (on (Ok tt) checked ∙ rw (← moves, ← shows, ← number) (ap (λ (j : ℕ). record { went = record { outcome = Ok tt; done = j; monitor = new }; lamps = g.lamps ++ shown ∷ []; numbers = g.named ++ k ∷ [] }) grows));
       many = omega (arith, length-append g.lamps (shown ∷ []), g.many);
       as_many = omega (arith, length-append g.named (k ∷ []), g.as_many);
       verdicts_are = ev ∙ rw g.verdicts_are (byte_more (λ (l : Lamp). number_of l.verdict) g.lamps verdicts₀ shown g.many refl);
@@ -101,10 +100,10 @@ module _ (p : Plant) (label next : List ℕ) (w : Ways) (live : Pairs) (m : Moni
         grows = omega (arith, length-append g.lamps (shown ∷ []))
 
     -- a refused event ends the course where it stands
-    pub stops : (last : ℕ) {r : Refusal} → event_outcome e p.props now.seen now.expected ≡ Refused r → n < last
-        → Followed (at last) verdicts₀ lefts₀ numbers₀ verdicts lefts numbers (record { outcome = Refused r; done = n; monitor = now })
+    pub stops : (last : ℕ) {r : Refusal} → event_outcome e p.props now.seen now.expected ≡ Err r → n < last
+        → Followed (at last) verdicts₀ lefts₀ numbers₀ verdicts lefts numbers (record { outcome = Err r; done = n; monitor = now })
     stops last {r} checked before =
-        let stopped = on (Refused r) checked in
+        let stopped = on (Err r) checked in
         let same : at last ≡ at (suc n) = rw (rest) (stays (turn p label next w live) m event (suc n) (last - suc n) (ap (λ (c : Course). c.went.outcome) stopped)) in
         rw (same ∙ stopped) (record { went = rw g.many refl; verdicts_are = g.verdicts_are; lefts_are = g.lefts_are; numbers_are = g.numbers_are })
       where
@@ -122,5 +121,5 @@ module _ (p : Plant) (label next : List ℕ) (w : Ways) (live : Pairs) (m : Moni
   numbers_long g = rw g.numbers_are (laid_length _ _)
 
   pub ends : {n : ℕ} {now : Monitor} {verdicts lefts numbers : List ℕ} → Gone n now verdicts lefts numbers → (last : ℕ) {done : ℕ} → n ≡ done → done ≡ last
-      → Followed (at last) verdicts₀ lefts₀ numbers₀ verdicts lefts numbers (record { outcome = Accepted; done = done; monitor = now })
+      → Followed (at last) verdicts₀ lefts₀ numbers₀ verdicts lefts numbers (record { outcome = Ok tt; done = done; monitor = now })
   ends g last e f = rw (← f, ← e, g.is) (record { went = rw g.many refl; verdicts_are = g.verdicts_are; lefts_are = g.lefts_are; numbers_are = g.numbers_are })

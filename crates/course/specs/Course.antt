@@ -1,12 +1,10 @@
 -- A log, line by line from a monitor on: what the calls give, one step after the other, up to the first event that is refused.
-use Rattle.std.specs.Prelude.{ℕ, zero, suc, ◌%◌, ◌≡◌, List, [], ◌∷◌, ◌++◌, map}
+use Rattle.std.specs.Prelude.{ℕ, zero, suc, ◌%◌, ◌≡◌, List, [], ◌∷◌, ◌++◌, map, Ok, Err}
 use Rattle.pairs.specs.declared.Pairs.{Pairs}
 use Rattle.model.specs.Sets.{PairSet}
 use Rattle.answers.specs.declared.Lamp.{Lamp}
-use Rattle.answers.specs.declared.Answer.{Answer}
-use Rattle.answers.specs.declared.Answer.TheVariants as Answers
-use Rattle.answers.specs.declared.Outcome.{Outcome}
-use Rattle.answers.specs.declared.Outcome.TheVariants.{Accepted, Refused}
+use Rattle.answers.specs.Results.{Answer}
+use Rattle.answers.specs.Results.{Outcome}
 use Rattle.answers.specs.Paper.{number_of}
 use Rattle.plant.specs.declared.Plant.{Plant}
 use Rattle.syntax.specs.declared.Rule.{Rule}
@@ -34,20 +32,20 @@ pub record Course : Type 0 where
 
 -- one event taken, or refused; behind a refusal nothing more happens
 abbrev pub takes : Course → ℕ → Watched → Answer → Course
-takes c n w (Answers.Shown l) = record { went = record { outcome = Accepted; done = suc c.went.done; monitor = w.monitor }; lamps = c.lamps ++ l ∷ []; numbers = c.numbers ++ n ∷ [] }
-takes c n w (Answers.Refused r) = record { went = record { outcome = Refused r; done = c.went.done; monitor = w.monitor }; lamps = c.lamps; numbers = c.numbers }
+takes c n w (Ok l) = record { went = record { outcome = Ok tt; done = suc c.went.done; monitor = w.monitor }; lamps = c.lamps ++ l ∷ []; numbers = c.numbers ++ n ∷ [] }
+takes c n w (Err r) = record { went = record { outcome = Err r; done = c.went.done; monitor = w.monitor }; lamps = c.lamps; numbers = c.numbers }
 
 -- the number that an event takes
 abbrev pub number_in : Monitor → Event → ℕ
 number_in m e = numbers.number_of e.num m.expected
 
 abbrev pub go_on : (Monitor → Event → Watched) → Course → Event → Outcome → Course
-go_on step c e Accepted = takes c (number_in c.went.monitor e) (step c.went.monitor e) (step c.went.monitor e).answer
-go_on step c e (Refused r) = c
+go_on step c e (Ok _) = takes c (number_in c.went.monitor e) (step c.went.monitor e) (step c.went.monitor e).answer
+go_on step c e (Err r) = c
 
 -- n events from a monitor on, by what a step gives
 unfoldable pub course_to : (Monitor → Event → Watched) → Monitor → (ℕ → Event) → ℕ → Course
-course_to step m event zero = record { went = record { outcome = Accepted; done = 0; monitor = m }; lamps = []; numbers = [] }
+course_to step m event zero = record { went = record { outcome = Ok tt; done = 0; monitor = m }; lamps = []; numbers = [] }
 course_to step m event (suc n) = go_on step (course_to step m event n) (event n) (course_to step m event n).went.outcome
 
 -- THE COURSE OF A LOG: the public step, line after line, each as wide as the table's propositions ask for
@@ -70,7 +68,7 @@ pub record Followed (c : Course) (verdicts₀ lefts₀ numbers₀ verdicts lefts
 
 -- a table and a rule that are accepted, and a live set and a monitor of theirs
 pub record Fitting (p : Plant) (fair label next : List ℕ) (rule : Rule) (live : Pairs) (m : Monitor) : Type 0 where
-  pub input : input_outcome p fair label next rule ≡ Accepted
+  pub input : input_outcome p fair label next rule ≡ Ok tt
   pub lives : PairSet (T p fair label next rule) (f p fair label next rule) live.words
   pub held : Held p fair label next rule m
 
@@ -78,8 +76,8 @@ pub record Fitting (p : Plant) (fair label next : List ℕ) (rule : Rule) (live 
 
 -- a step with all that a rule says lent, and no check but those of the event
 abbrev pub turn_of : Outcome → Monitor → Monitor → Watched
-turn_of Accepted old new = record { answer = Answers.Shown (lamp_in (model_of new)); monitor = new }
-turn_of (Refused r) old new = record { answer = Answers.Refused r; monitor = old }
+turn_of (Ok _) old new = record { answer = Ok (lamp_in (model_of new)); monitor = new }
+turn_of (Err r) old new = record { answer = Err r; monitor = old }
 
 abbrev pub turn : Plant → List ℕ → List ℕ → Ways → Pairs → Monitor → Event → Watched
 turn p label next w live m e = turn_of (event_outcome e p.props m.seen m.expected) m (taken_in label next w live.words m e)

@@ -1,7 +1,7 @@
 -- How many lamps a course has, and that `left` fits a byte.
 use Prim.Native.Nat.{ℕ, zero, suc, ◌+◌, ◌%◌, ◌≤◌, zero-le}
 use Rattle.std.proofs.Common.{arith, sym, ap₂, ◌∙◌, length-append}
-use Rattle.std.specs.Prelude.{◌≡◌, length}
+use Rattle.std.specs.Prelude.{◌≡◌, length, Ok, Err}
 use Rattle.std.proofs.Math.Path.{refl}
 use mathlib.Core.List.{List, [], ◌∷◌, ◌++◌, map, map-append, foldl}
 use Rattle.words.specs.Folds.{count_le}
@@ -9,11 +9,8 @@ use Rattle.pairs.specs.declared.Pairs.{Pairs}
 use Rattle.pairs.specs.Sets.{left_of}
 use Rattle.model.specs.Monitor as model
 use Rattle.answers.specs.declared.Lamp.{Lamp}
-use Rattle.answers.specs.declared.Answer.{Answer}
-use Rattle.answers.specs.declared.Answer.TheVariants.{Shown}
-use Rattle.answers.specs.declared.Answer.TheVariants as Answers
-use Rattle.answers.specs.declared.Outcome.{Outcome}
-use Rattle.answers.specs.declared.Outcome.TheVariants.{Accepted, Refused}
+use Rattle.answers.specs.Results.{Answer}
+use Rattle.answers.specs.Results.{Outcome}
 use Rattle.plant.specs.declared.Plant.{Plant}
 use Rattle.syntax.specs.declared.Rule.{Rule}
 use Rattle.event_log.specs.declared.Event.{Event}
@@ -26,13 +23,13 @@ use Rattle.course.specs.Course.{Course, takes, number_in, go_on, course_to, left
 
 -- the `left` of an answer
 abbrev left_in : Answer → ℕ
-left_in (Shown l) = l.left
-left_in (Answers.Refused r) = 0
+left_in (Ok l) = l.left
+left_in (Err r) = 0
 
 few_left : (o : Outcome) (m : Monitor) (k : ℕ) (n : model.Monitor) → left_in (watched o m k n).answer ≤ 64
 unfolding model.left left_of
-few_left Accepted m k n = count_le 64 _
-few_left (Refused r) m k n = zero-le
+few_left (Ok _) m k n = count_le 64 _
+few_left (Err r) m k n = zero-le
 
 -- of a course behind at most n events
 pub record Counted (n : ℕ) (c : Course) : Type 0 where
@@ -53,14 +50,14 @@ module _ (p : Plant) (fair label next : List ℕ) (rule : Rule) (live : Pairs) (
 
   -- one event more
   took : {n : ℕ} (c : Course) → Counted n c → (k : ℕ) (w : Watched) (a : Answer) → left_in a ≤ 64 → Counted (suc n) (takes c k w a)
-  took c h k w (Shown l) low = record {
+  took c h k w (Ok l) low = record {
     done = omega (arith, h.done, length-append c.lamps (l ∷ []));
     few = omega (arith, h.few, length-append c.lamps (l ∷ []));
     lefts = map-append (λ (l : Lamp). l.left % 256) c.lamps (l ∷ [])
         ∙ ap₂ (λ (s : List ℕ) (k : ℕ). s ++ k ∷ []) h.lefts (omega arith) ∙ sym (map-append (λ (l : Lamp). l.left) c.lamps (l ∷ []));
     named = omega (arith, h.named, length-append c.lamps (l ∷ []), length-append c.numbers (k ∷ []));
   }
-  took c h k w (Answers.Refused r) low = record { done = h.done; few = omega (arith, h.few); lefts = h.lefts; named = h.named }
+  took c h k w (Err r) low = record { done = h.done; few = omega (arith, h.few); lefts = h.lefts; named = h.named }
 
   pub counted : (n : ℕ) → Counted n (course_to calls m event n)
   unfolding course_to
@@ -68,6 +65,6 @@ module _ (p : Plant) (fair label next : List ℕ) (rule : Rule) (live : Pairs) (
   counted (suc n) = by (course_to calls m event n) (counted n) (course_to calls m event n).went.outcome
     where
       by : (c : Course) → Counted n c → (o : Outcome) → Counted (suc n) (go_on calls c (event n) o)
-      by c h Accepted =
+      by c h (Ok _) =
           took c h (number_in c.went.monitor (event n)) (calls c.went.monitor (event n)) (calls c.went.monitor (event n)).answer (step_left c.went.monitor (event n))
-      by c h (Refused r) = record { done = h.done; few = omega (arith, h.few); lefts = h.lefts; named = h.named }
+      by c h (Err r) = record { done = h.done; few = omega (arith, h.few); lefts = h.lefts; named = h.named }

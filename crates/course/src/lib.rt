@@ -4,12 +4,11 @@
 
 mod lent;
 
-ghost use Rattle.std.specs.Prelude.{◌≡◌, ◌≤◌, ◌%◌, length, set};
-ghost use Rattle.answers.specs.declared.Outcome.TheVariants.{Accepted};
+ghost use Rattle.std.specs.Prelude.{◌≡◌, ◌≤◌, ◌%◌, length, set, Ok};
 ghost use Rattle.answers.specs.Paper.{number_of};
 ghost use Rattle.course.specs.Course.{Followed, course_in, course_of, Fitting};
 
-use answers::{Lamp, Outcome};
+use answers::{Lamp, Refusal};
 use event_numbers::check_event;
 use lent::{lamp_of, take_lent};
 use pairs::Pairs;
@@ -21,7 +20,7 @@ use ways::Ways;
 // Accepted where no event was refused, and else the refusal; how many events were taken; and the monitor behind them.
 #[derive(Clone, Copy)]
 pub struct Went {
-    pub outcome: Outcome,
+    pub outcome: Result<(), Refusal>,
     pub done: usize,
     pub monitor: Monitor,
 }
@@ -65,7 +64,7 @@ fn note(
 
 // Where a log went, with its monitor put together.
 fn ended(
-    outcome: Outcome,
+    outcome: Result<(), Refusal>,
     done: usize,
     seen: bool,
     keeps: Pairs,
@@ -114,10 +113,10 @@ fn turns(
         let event = event_log::event_at(text, n, plant.props);
         let outcome = check_event(event, plant.props, seen, expected);
         match outcome {
-            Outcome::Refused(refusal) => {
-                return ended(Outcome::Refused(refusal), n, seen, keeps, breaks, expected);
+            Err(refusal) => {
+                return ended(Err(refusal), n, seen, keeps, breaks, expected);
             }
-            Outcome::Accepted => {
+            Ok(()) => {
                 let number = take_lent(
                     label,
                     next,
@@ -139,7 +138,7 @@ fn turns(
             }
         }
     }
-    ended(Outcome::Accepted, lines, seen, keeps, breaks, expected)
+    ended(Ok(()), lines, seen, keeps, breaks, expected)
 }
 
 // Of an accepted table and rule, from a live set and a monitor of theirs.

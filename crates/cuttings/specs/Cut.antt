@@ -1,13 +1,11 @@
 -- FOR EVERY CUTTING: scraps heard one after the other, by the call, lead to what their bytes lead to at once: verdicts, a refusal and where it points, and the radio at the end.
 use Prim.Native.Nat.{ℕ, ◌+◌, ◌≤◌, zero-le}
 use Rattle.std.proofs.Common.{arith, ap, subst, ◌∙◌, leb-true, ltb-true, length-append}
-use Rattle.std.specs.Prelude.{◌≡◌, refl, Bool, true, false, cond, ltb, length}
+use Rattle.std.specs.Prelude.{◌≡◌, refl, Bool, true, false, cond, ltb, length, Ok, Err}
 use mathlib.Core.List.{List, [], ◌∷◌, ◌++◌, append_assoc, foldl-append}
 use Rattle.answers.specs.declared.Kind.TheVariants.{LogText}
-use Rattle.answers.specs.declared.Answer.{Answer}
-use Rattle.answers.specs.declared.Answer.TheVariants as Answers
-use Rattle.answers.specs.declared.Outcome.{Outcome}
-use Rattle.answers.specs.declared.Outcome.TheVariants.{Accepted, Refused}
+use Rattle.answers.specs.Results.{Answer}
+use Rattle.answers.specs.Results.{Outcome}
 use Rattle.answers.specs.Paper.{number_of, refused_at}
 use Rattle.event_log.specs.declared.Event.{Event}
 use Rattle.event_log.specs.Line.{line_fixed}
@@ -29,9 +27,9 @@ module _ (w : ℕ) (step : Monitor → Event → Watched) where
   behind vs h = record { ear = h.ear; verdicts = vs ++ h.verdicts }
 
   answered_behind : (vs : List ℕ) (h : Heard) (q : List ℕ) (s : Watched) (a : Answer) → answered (behind vs h) q s a ≡ behind vs (answered h q s a)
-  answered_behind vs h q s (Answers.Shown l) =
-      ap (λ (x : List ℕ). record { ear = (answered h q s (Answers.Shown l)).ear; verdicts = x }) (append_assoc vs h.verdicts (number_of l.verdict ∷ []))
-  answered_behind vs h q s (Answers.Refused r) = refl
+  answered_behind vs h q s (Ok l) =
+      ap (λ (x : List ℕ). record { ear = (answered h q s (Ok l)).ear; verdicts = x }) (append_assoc vs h.verdicts (number_of l.verdict ∷ []))
+  answered_behind vs h q s (Err r) = refl
 
   byte_behind : (vs : List ℕ) (h : Heard) (b : ℕ) → hear w step (behind vs h) b ≡ behind vs (hear w step h b)
   unfolding hear
@@ -51,8 +49,8 @@ module _ (w : ℕ) (step : Monitor → Event → Watched) where
       pick false u = refl
 
       by : (o : Outcome) → byte_heard w step o (behind vs h) b ≡ behind vs (byte_heard w step o h b)
-      by Accepted = pick (begins w h.ear.form q) (ltb (length q) (bytes_in w q))
-      by (Refused r) = refl
+      by (Ok _) = pick (begins w h.ear.form q) (ltb (length q) (bytes_in w q))
+      by (Err r) = refl
 
   pub all_behind : (vs : List ℕ) (s : List ℕ) (h : Heard) → hear_all w step (behind vs h) s ≡ behind vs (hear_all w step h s)
   all_behind vs [] h = refl
@@ -65,8 +63,8 @@ module _ (w : ℕ) (step : Monitor → Event → Watched) where
     pub low : e.start + length e.part ≤ n
 
   sound_answered : (n : ℕ) (h : Heard) (q : List ℕ) (s : Watched) (a : Answer) → h.ear.start + length q ≤ n → Sound n (answered h q s a).ear
-  sound_answered n h q s (Answers.Shown l) low = record { keep = record { short = (line_fixed (is_numbered []) w).some; begun = zero-le }; low = omega arith }
-  sound_answered n h q s (Answers.Refused r) low = record { keep = record { short = (line_fixed (is_numbered []) w).some; begun = zero-le }; low = omega arith }
+  sound_answered n h q s (Ok l) low = record { keep = record { short = (line_fixed (is_numbered []) w).some; begun = zero-le }; low = omega arith }
+  sound_answered n h q s (Err r) low = record { keep = record { short = (line_fixed (is_numbered []) w).some; begun = zero-le }; low = omega arith }
 
   sound_byte : (n : ℕ) (h : Heard) → Sound n h.ear → (b : ℕ) → Sound (n + 1) (hear w step h b).ear
   unfolding hear
@@ -88,8 +86,8 @@ module _ (w : ℕ) (step : Monitor → Event → Watched) where
       pick false u e f = record { keep = record { short = (line_fixed (is_numbered []) w).some; begun = zero-le }; low = omega (arith, sound.low) }
 
       by : (o : Outcome) → Sound (n + 1) (byte_heard w step o h b).ear
-      by Accepted = pick (begins w h.ear.form q) (ltb (length q) (bytes_in w q)) refl refl
-      by (Refused r) = record { keep = sound.keep; low = omega (arith, sound.low) }
+      by (Ok _) = pick (begins w h.ear.form q) (ltb (length q) (bytes_in w q)) refl refl
+      by (Err r) = record { keep = sound.keep; low = omega (arith, sound.low) }
 
   pub sound_all : (s : List ℕ) (n : ℕ) (h : Heard) → Sound n h.ear → Sound (n + length s) (hear_all w step h s).ear
   sound_all [] n h sound = subst (λ (k : ℕ). Sound k h.ear) (omega arith) sound

@@ -1,12 +1,11 @@
 -- THE CALL, SCRAP AFTER SCRAP: where each has room for its line ends and the log is not too long, the verdicts written and what is kept in the end are those of the bytes joined.
-use Rattle.std.specs.Prelude.{ℕ, ◌+◌, ◌≤◌, ◌≡◌, refl}
+use Rattle.std.specs.Prelude.{ℕ, ◌+◌, ◌≤◌, ◌≡◌, refl, Ok, Err}
 use Rattle.std.proofs.Common.{arith, sym, subst, ◌∙◌}
 use Rattle.std.proofs.Math.Path.{ap, ap₂}
 use mathlib.Core.List.{List, [], ◌∷◌, ◌++◌, append-nil}
 use Rattle.std.proofs.Math.ListN.{length}
 use Rattle.pairs.specs.declared.Pairs.{Pairs}
-use Rattle.answers.specs.declared.Outcome.{Outcome}
-use Rattle.answers.specs.declared.Outcome.TheVariants.{Accepted, Refused}
+use Rattle.answers.specs.Results.{Outcome}
 use Rattle.plant.specs.declared.Plant.{Plant}
 use Rattle.syntax.specs.declared.Rule.{Rule}
 use Rattle.text.specs.Number.{width_of, width_between}
@@ -76,9 +75,9 @@ module _ (p : Plant) (fair label next : List ℕ) (rule : Rule) (live : Pairs) w
       h = all (heard_by r []) s.bytes
 
       go : (o : Outcome) → o ≡ r.standing → (ear_of (took_by o r (all (heard_by r []) s.bytes)).taken.radio ≡ (all (heard_by r []) s.bytes).ear) × ((took_by o r (all (heard_by r []) s.bytes)).verdicts ≡ (all (heard_by r []) s.bytes).verdicts)
-      go Accepted e =
+      go (Ok _) e =
           (ear_back w (step_call p fair label next rule live) (width_between p.props).1 (n + length s.bytes) h.ear (sound_all w (step_call p fair label next rule live) s.bytes n (heard_by r []) sound), refl)
-      go (Refused x) e =
+      go (Err x) e =
           let same = hears_no_more w (step_call p fair label next rule live) (heard_by r []) (sym e) s.bytes in
           (ap (λ (g : Heard). g.ear) (sym same), ap (λ (g : Heard). g.verdicts) (sym same))
 

@@ -4,13 +4,13 @@
 
 ghost use Rattle.std.specs.Prelude.{◌≤◌, length};
 
-use answers::{Kind, Outcome, Refusal};
+use answers::{Kind, Refusal};
 use closing::{Closed, ClosingVerdict};
-use day_writer::{Length, Wrote, write_sheet};
+use day_writer::{Length, write_sheet};
 use files::File;
 use minutes::note_texts;
 use program::said::{put, refuse};
-use settings::{Asked, SheetRefusal, ask, value_of};
+use settings::{SheetRefusal, ask, value_of};
 use sheet::Key;
 use std::rt::Files;
 use stretches::DaySheet;
@@ -32,8 +32,8 @@ fn with_folder<R: Files + Print>(rt: &R, folder: &[u8]) {
     let file = files::read_in(rt, folder, b"plant.txt", &mut plant);
     let text = &plant[..file.len];
     match texts::read_plant(file.ok, text).outcome {
-        Outcome::Refused(refusal) => refuse(rt, refusal),
-        Outcome::Accepted => with_plant(rt, folder, text),
+        Err(refusal) => refuse(rt, refusal),
+        Ok(()) => with_plant(rt, folder, text),
     }
 }
 
@@ -74,12 +74,12 @@ fn with_sheets<'a, R: Files + Print>(
 ) {
     let rule = ask(local, shared, Key::Rule);
     match rule {
-        Asked::Refused(refusal) => refuse_sheet(rt, refusal, b"rule "),
-        Asked::At(_) => {
+        Err(refusal) => refuse_sheet(rt, refusal, b"rule "),
+        Ok(_) => {
             let closing = ask(local, shared, Key::Closing);
             match closing {
-                Asked::Refused(refusal) => refuse_sheet(rt, refusal, b"closing "),
-                Asked::At(_) => with_settings(
+                Err(refusal) => refuse_sheet(rt, refusal, b"closing "),
+                Ok(_) => with_settings(
                     rt,
                     folder,
                     plant,
@@ -100,8 +100,8 @@ fn with_settings<R: Files + Print>(
     closing: &[u8],
 ) {
     match opened::open_texts(plant, rule).outcome {
-        Outcome::Refused(refusal) => refuse(rt, refusal),
-        Outcome::Accepted => with_rule(rt, folder, plant, rule, edition_of(closing)),
+        Err(refusal) => refuse(rt, refusal),
+        Ok(()) => with_rule(rt, folder, plant, rule, edition_of(closing)),
     }
 }
 
@@ -119,8 +119,8 @@ fn with_rule<R: Files + Print>(rt: &R, folder: &[u8], plant: &[u8], rule: &[u8],
 fn with_log<P: Print>(to: &P, plant: &[u8], rule: &[u8], log: &[u8], edition: u64) {
     let minutes = note_texts(plant, rule, log);
     match minutes.outcome {
-        Outcome::Refused(refusal) => refuse(to, refusal),
-        Outcome::Accepted => with_day(to, plant, rule, log, edition, minutes.sheet),
+        Err(refusal) => refuse(to, refusal),
+        Ok(()) => with_day(to, plant, rule, log, edition, minutes.sheet),
     }
 }
 
@@ -149,8 +149,8 @@ fn show_sheet<P: Print>(to: &P, sheet: DaySheet) {
     let mut text = [0u8; 6080];
     let wrote = write_sheet(sheet, &mut text);
     match wrote {
-        Wrote::Refused(refusal) => refuse(to, refusal),
-        Wrote::Text(written) => show_text(to, &text, written),
+        Err(refusal) => refuse(to, refusal),
+        Ok(written) => show_text(to, &text, written),
     }
 }
 

@@ -4,7 +4,7 @@
 ghost use Rattle.std.specs.Prelude.{◌≡◌};
 ghost use Rattle.day_log.specs.Day.{day_of};
 
-use answers::{Answer, Outcome};
+use answers::{Answer, Refusal};
 use day_sheet::note;
 use pairs::Pairs;
 use plant::Plant;
@@ -15,7 +15,7 @@ use syntax::Rule;
 // Accepted where no event was refused, and else the refusal; how many lines were taken; and the monitor and the sheet behind them.
 #[derive(Clone, Copy)]
 pub struct DayWent {
-    pub outcome: Outcome,
+    pub outcome: Result<(), Refusal>,
     pub done: usize,
     pub monitor: Monitor,
     pub sheet: DaySheet,
@@ -42,22 +42,22 @@ pub fn note_log(
         let event = event_log::event_at(text, n, plant.props);
         let noted = note(plant, fair, label, next, rule, live, now, day, event);
         match noted.answer {
-            Answer::Refused(refusal) => {
+            Err(refusal) => {
                 return DayWent {
-                    outcome: Outcome::Refused(refusal),
+                    outcome: Err(refusal),
                     done: n,
                     monitor: now,
                     sheet: day,
                 };
             }
-            Answer::Shown(_) => {
+            Ok(_) => {
                 now = noted.monitor;
                 day = noted.sheet;
             }
         }
     }
     DayWent {
-        outcome: Outcome::Accepted,
+        outcome: Ok(()),
         done: lines,
         monitor: now,
         sheet: day,

@@ -4,7 +4,7 @@
 use Prim.Native.Nat.{ℕ, zero, suc, ◌+◌, ◌-◌, ◌^◌, ◌≤◌, ◌<◌, zero-le}
 use Rattle.std.proofs.Common.{arith, ◌∙◌, le-ltb, eq-eqb, eqb-true}
 use Rattle.std.proofs.Math.Decide.{dec_lt}
-use Rattle.std.specs.Prelude.{◌≡◌, ◌↔◌, ◌&&◌, ltb, replicate}
+use Rattle.std.specs.Prelude.{◌≡◌, ◌↔◌, ◌&&◌, ltb, replicate, Ok, Err}
 use Rattle.std.proofs.Math.Path.{refl, sym, ap, ap₂, subst}
 use Rattle.std.proofs.Math.Bool.{Bool, true, false, cond}
 use Rattle.std.proofs.lemmas.Bool.{false≢true}
@@ -21,10 +21,8 @@ use Rattle.model.proofs.Rule.{opening_sets}
 use Rattle.answers.specs.declared.Kind.TheVariants.{IllegalEvent, Stretches, Number as NumberKind}
 use Rattle.answers.specs.declared.Refusal.{Refusal}
 use Rattle.answers.specs.declared.Lamp.{Lamp}
-use Rattle.answers.specs.declared.Answer.{Answer}
-use Rattle.answers.specs.declared.Answer.TheVariants as Answers
-use Rattle.answers.specs.declared.Outcome.{Outcome}
-use Rattle.answers.specs.declared.Outcome.TheVariants.{Accepted, Refused}
+use Rattle.answers.specs.Results.{Answer}
+use Rattle.answers.specs.Results.{Outcome}
 use Rattle.answers.specs.Paper.{kind_number, refused_at}
 use Rattle.plant.specs.declared.Plant.{Plant}
 use Rattle.plant.specs.Table.{plant_of}
@@ -54,10 +52,10 @@ use Rattle.day_sheet.specs.Code.{missing_few}
 -- ---- small words
 
 abbrev is_shown : Answer → Bool
-is_shown (Answers.Shown l) = true
-is_shown (Answers.Refused r) = false
+is_shown (Ok l) = true
+is_shown (Err r) = false
 
-shown_none : {A : Type 0} {r : Refusal} {l : Lamp} → Answers.Refused r ≡ Answers.Shown l → A
+shown_none : {A : Type 0} {r : Refusal} {l : Lamp} → Err r ≡ Ok l → A
 shown_none g = absurd (false≢true (ap is_shown g))
 
 -- whether a list has an entry
@@ -234,18 +232,18 @@ length_same (suc k) u = ap suc (length_same k u)
 
 -- neither 10 nor 16 is 23
 abbrev refused_in : Answer → Outcome
-refused_in (Answers.Shown l) = Accepted
-refused_in (Answers.Refused r) = Refused r
+refused_in (Ok l) = Ok tt
+refused_in (Err r) = Err r
 
 abbrev code_of : Outcome → ℕ
-code_of Accepted = 0
-code_of (Refused r) = kind_number r.kind
+code_of (Ok _) = 0
+code_of (Err r) = kind_number r.kind
 
-not_23 : (e : Event) (props : ℕ) (seen : Bool) (expected : ℕ) → event_outcome e props seen expected ≡ Refused (refused_at Stretches 0) → ⊥
+not_23 : (e : Event) (props : ℕ) (seen : Bool) (expected : ℕ) → event_outcome e props seen expected ≡ Err (refused_at Stretches 0) → ⊥
 unfolding event_outcome
 not_23 e props seen expected g = by (legal_of e props) (in_turn seen expected (number_of e.num expected)) (ap code_of g)
   where
-    by : (b c : Bool) → code_of (cond b (cond c Accepted (Refused (refused_at NumberKind 0))) (Refused (refused_at IllegalEvent 0))) ≡ 23 → ⊥
+    by : (b c : Bool) → code_of (cond b (cond c (Ok tt) (Err (refused_at NumberKind 0))) (Err (refused_at IllegalEvent 0))) ≡ 23 → ⊥
     by true true h = omega (arith, h)
     by true false h = omega (arith, h)
     by false c h = omega (arith, h)
@@ -271,11 +269,11 @@ module _ (p : Plant) (fair label next : List ℕ) (rule : Rule) (known : Pairs) 
 
   pub record Accepts (m : Monitor) (s : DaySheet) (e : Event) : Type 0 where
     pub lamp : Lamp
-    pub stepped : (step_call p fair label next rule known m e).answer ≡ Answers.Shown lamp
+    pub stepped : (step_call p fair label next rule known m e).answer ≡ Ok lamp
     pub room : is_full s m.seen e.new ≡ false
-    pub is : note m s e ≡ record { answer = Answers.Shown lamp; monitor = (step_call p fair label next rule known m e).monitor; sheet = sheet_after table formula known.words m s e }
+    pub is : note m s e ≡ record { answer = Ok lamp; monitor = (step_call p fair label next rule known m e).monitor; sheet = sheet_after table formula known.words m s e }
 
-  pub accepted : (m : Monitor) (s : DaySheet) (e : Event) (l : Lamp) → (note m s e).answer ≡ Answers.Shown l → Accepts m s e
+  pub accepted : (m : Monitor) (s : DaySheet) (e : Event) (l : Lamp) → (note m s e).answer ≡ Ok l → Accepts m s e
   unfolding noted_of
   accepted m s e l = by_count (ltb 64 s.count) refl
     where
@@ -288,20 +286,20 @@ module _ (p : Plant) (fair label next : List ℕ) (rule : Rule) (known : Pairs) 
       taken : Answer → Bool → Noted
       taken a full = note_by w a full m s (λ v. new)
 
-      by_full : (lamp : Lamp) → w.answer ≡ Answers.Shown lamp → (b : Bool) → is_full s m.seen e.new ≡ b → note m s e ≡ taken (Answers.Shown lamp) b → (taken (Answers.Shown lamp) b).answer ≡ Answers.Shown l → Accepts m s e
+      by_full : (lamp : Lamp) → w.answer ≡ Ok lamp → (b : Bool) → is_full s m.seen e.new ≡ b → note m s e ≡ taken (Ok lamp) b → (taken (Ok lamp) b).answer ≡ Ok l → Accepts m s e
       by_full lamp a true full is g = shown_none g
       by_full lamp a false full is g = record { lamp = lamp; stepped = a; room = full; is = is }
 
-      by_answer : (a : Answer) → w.answer ≡ a → note m s e ≡ taken a (is_full s m.seen e.new) → (taken a (is_full s m.seen e.new)).answer ≡ Answers.Shown l → Accepts m s e
-      by_answer (Answers.Shown lamp) a is g = by_full lamp a (is_full s m.seen e.new) refl is g
-      by_answer (Answers.Refused r) a is g = shown_none g
+      by_answer : (a : Answer) → w.answer ≡ a → note m s e ≡ taken a (is_full s m.seen e.new) → (taken a (is_full s m.seen e.new)).answer ≡ Ok l → Accepts m s e
+      by_answer (Ok lamp) a is g = by_full lamp a (is_full s m.seen e.new) refl is g
+      by_answer (Err r) a is g = shown_none g
 
-      by_count : (b : Bool) → ltb 64 s.count ≡ b → (note m s e).answer ≡ Answers.Shown l → Accepts m s e
+      by_count : (b : Bool) → ltb 64 s.count ≡ b → (note m s e).answer ≡ Ok l → Accepts m s e
       by_count true many g = shown_none (sym (ap (λ (b : Bool). (cond b (refused_with (overfull_by (input_outcome p fair label next rule)) m s) (taken w.answer (is_full s m.seen e.new))).answer) many) ∙ g)
       by_count false few g = by_answer w.answer refl (ap (λ (b : Bool). cond b (refused_with (overfull_by (input_outcome p fair label next rule)) m s) (taken w.answer (is_full s m.seen e.new))) few) (sym (ap (λ (x : Noted). x.answer) (ap (λ (b : Bool). cond b (refused_with (overfull_by (input_outcome p fair label next rule)) m s) (taken w.answer (is_full s m.seen e.new))) few)) ∙ g)
 
   -- A REFUSAL LEAVES monitor and sheet as they were
-  pub refused_leaves : (m : Monitor) (s : DaySheet) (e : Event) (r : Refusal) → (note m s e).answer ≡ Answers.Refused r → note m s e ≡ refused_with r m s
+  pub refused_leaves : (m : Monitor) (s : DaySheet) (e : Event) (r : Refusal) → (note m s e).answer ≡ Err r → note m s e ≡ refused_with r m s
   unfolding noted_of
   refused_leaves m s e r = by_count (ltb 64 s.count)
     where
@@ -309,21 +307,21 @@ module _ (p : Plant) (fair label next : List ℕ) (rule : Rule) (known : Pairs) 
       w = step_call p fair label next rule known m e
 
       refusal_in : Answer → Refusal
-      refusal_in (Answers.Shown l) = r
-      refusal_in (Answers.Refused q) = q
+      refusal_in (Ok l) = r
+      refusal_in (Err q) = q
 
-      same : {q : Refusal} → Answers.Refused q ≡ Answers.Refused r → refused_with q m s ≡ refused_with r m s
+      same : {q : Refusal} → Err q ≡ Err r → refused_with q m s ≡ refused_with r m s
       same g = ap (λ (x : Refusal). refused_with x m s) (ap refusal_in g)
 
-      by_full : (l : Lamp) (b : Bool) (new : DaySheet) → (note_by w (Answers.Shown l) b m s (λ v. new)).answer ≡ Answers.Refused r → note_by w (Answers.Shown l) b m s (λ v. new) ≡ refused_with r m s
+      by_full : (l : Lamp) (b : Bool) (new : DaySheet) → (note_by w (Ok l) b m s (λ v. new)).answer ≡ Err r → note_by w (Ok l) b m s (λ v. new) ≡ refused_with r m s
       by_full l true new g = same g
       by_full l false new g = shown_none (sym g)
 
-      by_answer : (a : Answer) (b : Bool) (new : DaySheet) → (note_by w a b m s (λ v. new)).answer ≡ Answers.Refused r → note_by w a b m s (λ v. new) ≡ refused_with r m s
-      by_answer (Answers.Shown l) b new g = by_full l b new g
-      by_answer (Answers.Refused q) b new g = same g
+      by_answer : (a : Answer) (b : Bool) (new : DaySheet) → (note_by w a b m s (λ v. new)).answer ≡ Err r → note_by w a b m s (λ v. new) ≡ refused_with r m s
+      by_answer (Ok l) b new g = by_full l b new g
+      by_answer (Err q) b new g = same g
 
-      by_count : (b : Bool) → (cond b (refused_with (overfull_by (input_outcome p fair label next rule)) m s) (note_by w w.answer (is_full s m.seen e.new) m s (λ v. sheet_after table formula known.words m s e))).answer ≡ Answers.Refused r
+      by_count : (b : Bool) → (cond b (refused_with (overfull_by (input_outcome p fair label next rule)) m s) (note_by w w.answer (is_full s m.seen e.new) m s (λ v. sheet_after table formula known.words m s e))).answer ≡ Err r
           → cond b (refused_with (overfull_by (input_outcome p fair label next rule)) m s) (note_by w w.answer (is_full s m.seen e.new) m s (λ v. sheet_after table formula known.words m s e)) ≡ refused_with r m s
       by_count true g = same g
       by_count false g = by_answer w.answer (is_full s m.seen e.new) (sheet_after table formula known.words m s e) g
@@ -432,20 +430,20 @@ module _ (p : Plant) (fair label next : List ℕ) (rule : Rule) (known : Pairs) 
       here = monitor_of n x
 
       -- the step of an event that was accepted
-      passed : (l : Lamp) → (step_call p fair label next rule known here e).answer ≡ Answers.Shown l
+      passed : (l : Lamp) → (step_call p fair label next rule known here e).answer ≡ Ok l
           → Taken p fair label next rule x.seen n e × ((step_call p fair label next rule known here e).monitor ≡ monitor_of (number_of e.num n + 1) (brought p fair label next rule known.words x n e))
       passed l g = by (event_outcome e p.props x.seen n) refl (checks_pass p fair label next rule given known fits here (ran_held done k.taken) e)
         where
           by : (o : Outcome) → event_outcome e p.props x.seen n ≡ o
               → step_call p fair label next rule known here e ≡ watched o here (number_of e.num n + 1) (brought p fair label next rule known.words x n e)
               → Taken p fair label next rule x.seen n e × ((step_call p fair label next rule known here e).monitor ≡ monitor_of (number_of e.num n + 1) (brought p fair label next rule known.words x n e))
-          by Accepted o is = ((event_says p fair label next rule given e x.seen n).0 o, ap (λ (w : Watched). w.monitor) is)
-          by (Refused r) o is = shown_none (sym (ap (λ (w : Watched). w.answer) is) ∙ g)
+          by (Ok _) o is = ((event_says p fair label next rule given e x.seen n).0 o, ap (λ (w : Watched). w.monitor) is)
+          by (Err r) o is = shown_none (sym (ap (λ (w : Watched). w.answer) is) ∙ g)
 
       fine : Fine table formula known.words (record { monitor = x; sheet = lines_after done }) xs
       fine = record { sheet = refl; seen = run_seen p fair label next rule known.words done ∙ sym (some_shown done); low = k.low; room = k.room }
 
-      next_exact : (l : Lamp) → (note here (lines_after done) e).answer ≡ Answers.Shown l → Kept (done ++ e ∷ []) (note here (lines_after done) e).monitor (note here (lines_after done) e).sheet
+      next_exact : (l : Lamp) → (note here (lines_after done) e).answer ≡ Ok l → Kept (done ++ e ∷ []) (note here (lines_after done) e).monitor (note here (lines_after done) e).sheet
       next_exact l g = record {
         taken = taken_more false 0 done e k.taken (subst (λ (b : Bool). Taken p fair label next rule b n e) (run_seen p fair label next rule known.words done) step.0);
         monitor = ap (λ (w : Noted). w.monitor) a.is ∙ step.1 ∙ ap₂ monitor_of (sym (expected_append 0 done (e ∷ []))) (sym (ran_more done e));
@@ -497,7 +495,7 @@ module _ (p : Plant) (fair label next : List ℕ) (rule : Rule) (known : Pairs) 
           behind w b = note_by w w.answer b here (lines_after done) (λ v. sheet_after table formula known.words here (lines_after done) e)
 
       -- 23 is for an event that was accepted, and finds no room
-      full_exactly : ((note here (lines_after done) e).answer ≡ Answers.Refused (refused_at Stretches 0))
+      full_exactly : ((note here (lines_after done) e).answer ≡ Err (refused_at Stretches 0))
           ↔ (Taken p fair label next rule x.seen n e × (64 < length (afresh table formula known.words (done ++ e ∷ []))))
       full_exactly = (λ g. there (event_outcome e p.props x.seen n) refl _ refl g, λ (t, many). back t many _ refl)
         where
@@ -515,36 +513,36 @@ module _ (p : Plant) (fair label next : List ℕ) (rule : Rule) (known : Pairs) 
               (first_none x.seen n (number_of e.num n)) (omega (arith, t.1.number)) counts.0 opens in
               omega (arith, ap (λ (ys : List Shown). length (lines_of ys)) (shown_more done e), grown, full)
 
-          there : (o : Outcome) → event_outcome e p.props x.seen n ≡ o → (b : Bool) → is_full (lines_after done) x.seen e.new ≡ b → (note here (lines_after done) e).answer ≡ Answers.Refused (refused_at Stretches 0)
+          there : (o : Outcome) → event_outcome e p.props x.seen n ≡ o → (b : Bool) → is_full (lines_after done) x.seen e.new ≡ b → (note here (lines_after done) e).answer ≡ Err (refused_at Stretches 0)
               → Taken p fair label next rule x.seen n e × (64 < length (afresh table formula known.words (done ++ e ∷ [])))
-          there (Refused r) o b h g = absurd (not_23 e p.props x.seen n (o ∙ ap refused_in (sym (answered o h) ∙ g)))
-          there Accepted o true h g = let t = (event_says p fair label next rule given e x.seen n).0 o in (t, over t h)
-          there Accepted o false h g = shown_none (sym g ∙ answered o h)
+          there (Err r) o b h g = absurd (not_23 e p.props x.seen n (o ∙ ap refused_in (sym (answered o h) ∙ g)))
+          there (Ok _) o true h g = let t = (event_says p fair label next rule given e x.seen n).0 o in (t, over t h)
+          there (Ok _) o false h g = shown_none (sym g ∙ answered o h)
 
           back : Taken p fair label next rule x.seen n e → 64 < length (afresh table formula known.words (done ++ e ∷ [])) → (b : Bool) → is_full (lines_after done) x.seen e.new ≡ b
-              → (note here (lines_after done) e).answer ≡ Answers.Refused (refused_at Stretches 0)
+              → (note here (lines_after done) e).answer ≡ Err (refused_at Stretches 0)
           back t many true h = answered ((event_says p fair label next rule given e x.seen n).1 t) h
           back t many false h = absurd (let room = (next_exact _ (answered ((event_says p fair label next rule given e x.seen n).1 t) h)).room in omega arith)
 
     -- ONE EVENT MORE, noted, is the sheet of one event more
-    pub one_more : (done : List Event) (m : Monitor) (s : DaySheet) → Kept done m s → (e : Event) (l : Lamp) → (note m s e).answer ≡ Answers.Shown l → Kept (done ++ e ∷ []) (note m s e).monitor (note m s e).sheet
+    pub one_more : (done : List Event) (m : Monitor) (s : DaySheet) → Kept done m s → (e : Event) (l : Lamp) → (note m s e).answer ≡ Ok l → Kept (done ++ e ∷ []) (note m s e).monitor (note m s e).sheet
     one_more done m s k e l =
-        subst (λ (w : Monitor). (note w s e).answer ≡ Answers.Shown l → Kept (done ++ e ∷ []) (note w s e).monitor (note w s e).sheet) (sym k.monitor)
-        (subst (λ (d : DaySheet). (note (monitor_of (expected_from 0 done) (ran done)) d e).answer ≡ Answers.Shown l → Kept (done ++ e ∷ []) (note (monitor_of (expected_from 0 done) (ran done)) d e).monitor (note (monitor_of (expected_from 0 done) (ran done)) d e).sheet) (sym k.sheet)
+        subst (λ (w : Monitor). (note w s e).answer ≡ Ok l → Kept (done ++ e ∷ []) (note w s e).monitor (note w s e).sheet) (sym k.monitor)
+        (subst (λ (d : DaySheet). (note (monitor_of (expected_from 0 done) (ran done)) d e).answer ≡ Ok l → Kept (done ++ e ∷ []) (note (monitor_of (expected_from 0 done) (ran done)) d e).monitor (note (monitor_of (expected_from 0 done) (ran done)) d e).sheet) (sym k.sheet)
         (next_exact done (record { taken = k.taken; monitor = refl; sheet = refl; low = k.low; few = k.few; room = k.room }) e l))
 
     -- AN EVENT IS REFUSED BY 23 exactly where 10 and 16 accept it, and the sheet worked out afresh with it would have more than 64 lines
     pub refused_exactly : (done : List Event) (m : Monitor) (s : DaySheet) → Kept done m s → (e : Event)
-        → ((note m s e).answer ≡ Answers.Refused (refused_at Stretches 0))
+        → ((note m s e).answer ≡ Err (refused_at Stretches 0))
         ↔ (Taken p fair label next rule (seen_from false done) (expected_from 0 done) e × (64 < length (afresh table formula known.words (done ++ e ∷ []))))
     refused_exactly done m s k e =
         subst (λ (w : Monitor). Exactly w s) (sym k.monitor) (subst (λ (d : DaySheet). Exactly (monitor_of (expected_from 0 done) (ran done)) d) (sym k.sheet)
-        (subst (λ (b : Bool). ((note (monitor_of (expected_from 0 done) (ran done)) (lines_after done) e).answer ≡ Answers.Refused (refused_at Stretches 0))
+        (subst (λ (b : Bool). ((note (monitor_of (expected_from 0 done) (ran done)) (lines_after done) e).answer ≡ Err (refused_at Stretches 0))
         ↔ (Taken p fair label next rule b (expected_from 0 done) e × (64 < length (afresh table formula known.words (done ++ e ∷ []))))) (run_seen p fair label next rule known.words done)
         (full_exactly done (record { taken = k.taken; monitor = refl; sheet = refl; low = k.low; few = k.few; room = k.room }) e)))
       where
         Exactly : Monitor → DaySheet → Type 0
-        Exactly w d = ((note w d e).answer ≡ Answers.Refused (refused_at Stretches 0))
+        Exactly w d = ((note w d e).answer ≡ Err (refused_at Stretches 0))
             ↔ (Taken p fair label next rule (seen_from false done) (expected_from 0 done) e × (64 < length (afresh table formula known.words (done ++ e ∷ []))))
 
   -- ---- whatever events come
@@ -561,8 +559,8 @@ module _ (p : Plant) (fair label next : List ℕ) (rule : Rule) (known : Pairs) 
 
   -- the events that were accepted
   abbrev keep : Answer → Event → List Event → List Event
-  keep (Answers.Shown l) e es = e ∷ es
-  keep (Answers.Refused r) e es = es
+  keep (Ok l) e es = e ∷ es
+  keep (Err r) e es = es
 
   unfoldable pub accepted_from : Noted → List Event → List Event
   accepted_from w [] = []
@@ -582,10 +580,10 @@ module _ (p : Plant) (fair label next : List ℕ) (rule : Rule) (known : Pairs) 
 
         by : ((done : List Event) → Kept done r.monitor r.sheet → Kept (done ++ accepted_from r es) (through r es).monitor (through r es).sheet)
             → (a : Answer) → r.answer ≡ a → Kept (done ++ keep a e (accepted_from r es)) (through r es).monitor (through r es).sheet
-        by rest (Answers.Shown l) g =
+        by rest (Ok l) g =
             subst (λ (x : List Event). Kept x (through r es).monitor (through r es).sheet) (append_assoc done (e ∷ []) (accepted_from r es))
             (rest (done ++ e ∷ []) (one_more given fits done w.monitor w.sheet k e l g))
-        by rest (Answers.Refused q) g =
+        by rest (Err q) g =
             rest done (subst (λ (x : Noted). Kept done x.monitor x.sheet) (sym (refused_leaves w.monitor w.sheet e q g)) k)
 
     -- THE SHEET IS ALWAYS THE ONE WORKED OUT AFRESH from the events that were accepted, and the monitor the model's

@@ -1,6 +1,6 @@
 -- WHAT NOTING AN EVENT ANSWERS: 9 for a sheet that counts too many stretches, then what the public step refuses, then 23; and else the monitor and the lamp of that step,
 -- with the sheet behind all that the event brings.
-use Rattle.std.specs.Prelude.{ℕ, ◌≡◌, Bool, not, cond, ◌&&◌, ◌||◌, eqb, ltb}
+use Rattle.std.specs.Prelude.{ℕ, ◌≡◌, Bool, not, cond, ◌&&◌, ◌||◌, eqb, ltb, Ok, Err}
 use mathlib.Core.List.{List, foldl}
 use Rattle.meaning.specs.Formula.{Formula}
 use Rattle.meaning.specs.Run as run
@@ -10,10 +10,8 @@ use Rattle.answers.specs.declared.Kind.TheVariants.{Value, Stretches}
 use Rattle.answers.specs.declared.Refusal.{Refusal}
 use Rattle.answers.specs.declared.Verdict.{Verdict}
 use Rattle.answers.specs.declared.Lamp.{Lamp}
-use Rattle.answers.specs.declared.Answer.{Answer}
-use Rattle.answers.specs.declared.Answer.TheVariants as Answers
-use Rattle.answers.specs.declared.Outcome.{Outcome}
-use Rattle.answers.specs.declared.Outcome.TheVariants.{Accepted, Refused}
+use Rattle.answers.specs.Results.{Answer}
+use Rattle.answers.specs.Results.{Outcome}
 use Rattle.answers.specs.Paper.{refused_at}
 use Rattle.plant.specs.declared.Plant.{Plant}
 use Rattle.plant.specs.Table.{plant_of}
@@ -55,10 +53,10 @@ sheet_after T f live m s e = (foldl (note_step T f live) (record { monitor = mod
 
 -- an answer that is no refusal
 abbrev pub Shows : Answer → Type 0
-Shows (Answers.Shown l) = Unit {0}
-Shows (Answers.Refused r) = ⊥
+Shows (Ok l) = Unit {0}
+Shows (Err r) = ⊥
 
-pub shows_shown : {a : Answer} {l : Lamp} → a ≡ Answers.Shown l → Shows a
+pub shows_shown : {a : Answer} {l : Lamp} → a ≡ Ok l → Shows a
 shows_shown e = rw e tt
 
 -- the sheet has no room for the stretch that an event begins
@@ -66,17 +64,17 @@ unfoldable pub is_full : DaySheet → Bool → Bool → Bool
 is_full s seen new = eqb s.count 64 && opens_of seen new
 
 abbrev pub refused_with : Refusal → Monitor → DaySheet → Noted
-refused_with r m s = record { answer = Answers.Refused r; monitor = m; sheet = s }
+refused_with r m s = record { answer = Err r; monitor = m; sheet = s }
 
 -- by what the step answers; the new sheet may ask for the verdict that is shown
 abbrev pub note_by : Watched → Answer → Bool → Monitor → DaySheet → (Verdict → DaySheet) → Noted
-note_by w (Answers.Refused r) full m s new = refused_with r m s
-note_by w (Answers.Shown l) full m s new = cond full (refused_with (refused_at Stretches 0) m s) (record { answer = Answers.Shown l; monitor = w.monitor; sheet = new l.verdict })
+note_by w (Err r) full m s new = refused_with r m s
+note_by w (Ok l) full m s new = cond full (refused_with (refused_at Stretches 0) m s) (record { answer = Ok l; monitor = w.monitor; sheet = new l.verdict })
 
 -- a sheet that counts more than 64 stretches: 1 and 2, and else 9
 abbrev pub overfull_by : Outcome → Refusal
-overfull_by Accepted = refused_at Value 0
-overfull_by (Refused r) = r
+overfull_by (Ok _) = refused_at Value 0
+overfull_by (Err r) = r
 
 module _ (p : Plant) (fair label next : List ℕ) (rule : Rule) where
   unfoldable pub noted_of : Pairs → Monitor → DaySheet → Event → Noted

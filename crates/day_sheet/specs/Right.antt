@@ -1,7 +1,7 @@
 -- The sheet that code makes is the one that Calls defines.
 use Prim.Native.Nat.{ℕ, zero, suc, ◌+◌, ◌-◌, ◌≤◌, ◌<◌}
 use native.Mathlib.Omega.{arith}
-use Rattle.std.specs.Prelude.{◌≡◌, length, replicate}
+use Rattle.std.specs.Prelude.{◌≡◌, length, replicate, Ok, Err}
 use Rattle.std.proofs.Math.Path.{refl, sym, ap, ap₂}
 use Rattle.std.proofs.Common.{◌∙◌}
 use Rattle.std.proofs.Math.Bool.{Bool, true, false, cond}
@@ -20,10 +20,8 @@ use Rattle.answers.specs.declared.Kind.TheVariants.{Stretches}
 use Rattle.answers.specs.declared.Refusal.{Refusal}
 use Rattle.answers.specs.Paper.{refused_at}
 use Rattle.answers.specs.declared.Lamp.{Lamp}
-use Rattle.answers.specs.declared.Answer.{Answer}
-use Rattle.answers.specs.declared.Answer.TheVariants as Answers
-use Rattle.answers.specs.declared.Outcome.{Outcome}
-use Rattle.answers.specs.declared.Outcome.TheVariants.{Accepted, Refused}
+use Rattle.answers.specs.Results.{Answer}
+use Rattle.answers.specs.Results.{Outcome}
 use Rattle.plant.specs.declared.Plant.{Plant}
 use Rattle.plant.specs.Table.{plant_of}
 use Rattle.syntax.specs.declared.Rule.{Rule}
@@ -166,8 +164,8 @@ module _ (p : Plant) (fair label next : List ℕ) (rule : Rule) where
   -- ---- the call
 
   abbrev verdict_shown : Answer → Verdict
-  verdict_shown (Answers.Shown l) = l.verdict
-  verdict_shown (Answers.Refused r) = Inconclusive
+  verdict_shown (Ok l) = l.verdict
+  verdict_shown (Err r) = Inconclusive
 
   module _ (full : length rule.nodes ≡ 32) (live : Pairs) (m : Monitor) (e : Event) where
     abbrev new : model.Monitor
@@ -177,27 +175,27 @@ module _ (p : Plant) (fair label next : List ℕ) (rule : Rule) where
     called = step_call p fair label next rule live m e
 
     -- a step that shows a lamp passed its checks, and shows that of the new monitor
-    shown_passed : (l : Lamp) → called.answer ≡ Answers.Shown l → (step_checked p fair label next rule live m e ≡ Accepted) × (verdict_in new ≡ l.verdict)
+    shown_passed : (l : Lamp) → called.answer ≡ Ok l → (step_checked p fair label next rule live m e ≡ Ok tt) × (verdict_in new ≡ l.verdict)
     unfolding step_call
     shown_passed l is = by (step_checked p fair label next rule live m e) is
       where
-        by : (o : Outcome) → (watched o m (number_of e.num m.expected + 1) new).answer ≡ Answers.Shown l → (o ≡ Accepted) × (verdict_in new ≡ l.verdict)
-        by Accepted g = (refl, ap verdict_shown g)
-        by (Refused r) g = absurd (shown_none g)
+        by : (o : Outcome) → (watched o m (number_of e.num m.expected + 1) new).answer ≡ Ok l → (o ≡ Ok tt) × (verdict_in new ≡ l.verdict)
+        by (Ok _) g = (refl, ap verdict_shown g)
+        by (Err r) g = absurd (shown_none g)
           where
             is_shown : Answer → Bool
-            is_shown (Answers.Shown l) = true
-            is_shown (Answers.Refused r) = false
+            is_shown (Ok l) = true
+            is_shown (Err r) = false
 
-            shown_none : Answers.Refused r ≡ Answers.Shown l → ⊥
+            shown_none : Err r ≡ Ok l → ⊥
             shown_none g = false≢true (ap is_shown g)
 
     pub shows_ready : {stepped : Watched} → stepped ≡ called → Shows stepped.answer → Ready label rule
     shows_ready {stepped} is = by stepped.answer (ap (λ (x : Watched). x.answer) (sym is))
       where
         by : (a : Answer) → called.answer ≡ a → Shows a → Ready label rule
-        by (Answers.Shown l) g h = ready ((step_accepted p fair label next rule full live m e).0 (shown_passed l g).0).0.0
-        by (Answers.Refused r) g h = absurd h
+        by (Ok l) g h = ready ((step_accepted p fair label next rule full live m e).0 (shown_passed l g).0).0.0
+        by (Err r) g h = absurd h
 
     module _ (s : DaySheet) where
       pub note_overfull : {r : Refusal} → 64 < s.count → r ≡ overfull_by (input_outcome p fair label next rule) → refused_with r m s ≡ noted_of p fair label next rule live m s e
@@ -214,12 +212,12 @@ module _ (p : Plant) (fair label next : List ℕ) (rule : Rule) where
         where
           by : (a : Answer) → called.answer ≡ a
               → note_by called a (is_full s m.seen e.new) m s (sheet_in label next w live m s e) ≡ note_by called a (is_full s m.seen e.new) m s (λ v. sheet_after T f live.words m s e)
-          by (Answers.Refused r) g = refl
-          by (Answers.Shown l) g =
+          by (Err r) g = refl
+          by (Ok l) g =
               let passed = shown_passed l g in
               let checked = (step_accepted p fair label next rule full live m e).0 passed.0 in
               let held = checked.0.1.1 in
-              ap (λ (d : DaySheet). cond (is_full s m.seen e.new) (refused_with (refused_at Stretches 0) m s) (record { answer = Answers.Shown l; monitor = called.monitor; sheet = d }))
+              ap (λ (d : DaySheet). cond (is_full s m.seen e.new) (refused_with (refused_at Stretches 0) m s) (record { answer = Ok l; monitor = called.monitor; sheet = d }))
               (ap (sheet_in label next w live m s e) (sym passed.1) ∙ sheet_right live m checked.0.0 checked.0.1.0 (sides held.0 held.1.0) s e)
             where
               sides : PairSet T f m.keeps.words → PairSet T f m.breaks.words → (b : Bool) → PairSet T f (model.side (model_of m) b)

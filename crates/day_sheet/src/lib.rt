@@ -10,7 +10,7 @@ ghost use Rattle.checks.specs.Checks.{input_outcome};
 ghost use Rattle.day_sheet.specs.Calls.{Shows, overfull_by, note_by, is_full, noted_of};
 ghost use Rattle.day_sheet.specs.Code.{sheet_in};
 
-use answers::{Answer, Kind, Outcome, Refusal};
+use answers::{Answer, Kind, Refusal};
 use behind::sheet_after;
 use event_log::Event;
 use monitor::Watched;
@@ -33,8 +33,8 @@ fn overfull(plant: Plant, fair: &[u64], label: &[u16], next: &[u64], rule: Rule)
     ensures { result ≡ overfull_by (input_outcome plant fair.now label.now next.now rule) }
 {
     match checks::check_input(plant, fair, label, next, rule) {
-        Outcome::Refused(refusal) => refusal,
-        Outcome::Accepted => Refusal::at(Kind::Value, 0),
+        Err(refusal) => refusal,
+        Ok(()) => Refusal::at(Kind::Value, 0),
     }
 }
 
@@ -62,22 +62,22 @@ fn after_step(
         (sheet_in label.now next.now (ways_of label.now rule) live monitor sheet event) }
 {
     match stepped.answer {
-        Answer::Refused(refusal) => Noted {
-            answer: Answer::Refused(refusal),
+        Err(refusal) => Noted {
+            answer: Err(refusal),
             monitor,
             sheet,
         },
-        Answer::Shown(lamp) => {
+        Ok(lamp) => {
             if is_full(sheet, monitor.seen, event.new) {
                 let refusal = Refusal::at(Kind::Stretches, 0);
                 return Noted {
-                    answer: Answer::Refused(refusal),
+                    answer: Err(refusal),
                     monitor,
                     sheet,
                 };
             }
             Noted {
-                answer: Answer::Shown(lamp),
+                answer: Ok(lamp),
                 monitor: stepped.monitor,
                 sheet: sheet_after(label, next, rule, live, monitor, sheet, event, lamp.verdict),
             }
@@ -103,7 +103,7 @@ pub fn note(
     if DaySheet::STRETCHES < sheet.count {
         let refusal = overfull(plant, fair, label, next, rule);
         return Noted {
-            answer: Answer::Refused(refusal),
+            answer: Err(refusal),
             monitor,
             sheet,
         };

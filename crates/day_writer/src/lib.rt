@@ -22,26 +22,20 @@ impl Length {
     pub const MOST: usize = 6720;
 }
 
-#[derive(Clone, Copy)]
-pub enum Wrote {
-    Text(Length),
-    Refused(Refusal),
-}
-
 // Writes a sheet at the buffer's start: refusals 9 and 11. Other bytes stay, and all of them with a refusal.
 // The text is made apart, so how long it is need not be worked out beforehand.
-pub fn write_sheet(sheet: DaySheet, buffer: &mut [u8]) -> Wrote
+pub fn write_sheet(sheet: DaySheet, buffer: &mut [u8]) -> Result<Length, Refusal>
     ensures answer { result ≡ write_answer sheet buffer.old }
     ensures buffer { buffer.new ≡ write_buffer sheet buffer.old }
 {
     if DaySheet::STRETCHES < sheet.count {
-        return Wrote::Refused(Refusal::at(Kind::Value, 0));
+        return Err(Refusal::at(Kind::Value, 0));
     }
     let mut text = [0u8; Length::MOST];
     let bytes = put_lines(&mut text, sheet);
     if buffer.len() < bytes {
-        return Wrote::Refused(Refusal::at(Kind::Room, 0));
+        return Err(Refusal::at(Kind::Room, 0));
     }
     put_text(buffer, 0, &text[..bytes]);
-    Wrote::Text(Length { bytes })
+    Ok(Length { bytes })
 }

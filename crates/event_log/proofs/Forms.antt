@@ -1,8 +1,7 @@
 -- More of specs/Forms. The two forms of a log's lines: which one an accepted text has, and where a text that mixes them is refused.
-use Rattle.std.specs.Prelude.{ℕ, ◌<◌, ◌≡◌, refl, Bool, true, false, List, [], ◌∷◌, ◌++◌, length, get_or}
+use Rattle.std.specs.Prelude.{ℕ, ◌<◌, ◌≡◌, refl, Bool, true, false, List, [], ◌∷◌, ◌++◌, length, get_or, Ok}
 use Rattle.std.proofs.Common.{sym, ap, ◌∙◌, eqb-true}
 use Rattle.std.proofs.lemmas.Bool.{eqb-false}
-use Rattle.answers.specs.declared.Outcome.TheVariants.{Accepted}
 use Rattle.text.specs.Form.{seen}
 use Rattle.text.specs.Written.{small_of}
 use Rattle.text.specs.Place.{Fills, RefusedAt, fills_small}
@@ -41,7 +40,7 @@ lines_many w es s ok e =
     ((all_begun (line_bytes n w) (length s) (length es) (line_fixed n w).some long).1, long)
 
 -- behind a log's lines a line of the other form is refused at its first byte, whatever follows
-pub mixed : (w : ℕ) (s r : List ℕ) → 0 < length s → (log_read w s).outcome ≡ Accepted → log_read w (s ++ other_byte (is_numbered s) ∷ r) ≡ refused_log (length s)
+pub mixed : (w : ℕ) (s r : List ℕ) → 0 < length s → (log_read w s).outcome ≡ Ok tt → log_read w (s ++ other_byte (is_numbered s) ∷ r) ≡ refused_log (length s)
 unfolding is_numbered
 mixed w s r some e =
     let (es, ok, f, lines, at) = accepted_text w s e in

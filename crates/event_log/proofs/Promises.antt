@@ -1,8 +1,7 @@
 -- More of specs/Promises. What is promised of logs. Check 10: `legal_exactly` in Legal. Two forms of lines: Forms. Here: what reading a log of w digits means.
-use Rattle.std.specs.Prelude.{ℕ, ◌≡◌, refl, ◌↔◌, Bool, List, length, get_or}
+use Rattle.std.specs.Prelude.{ℕ, ◌≡◌, refl, ◌↔◌, Bool, List, length, get_or, Ok}
 use Rattle.std.proofs.Common.{sym, subst, ap, ◌∙◌}
 use Rattle.std.proofs.lemmas.Bool.{false≢true}
-use Rattle.answers.specs.declared.Outcome.TheVariants.{Accepted}
 use Rattle.answers.specs.Chain.{is_accepted, place_of}
 use Rattle.text.specs.Form.{led}
 use Rattle.text.specs.Written.{small_of}
@@ -62,7 +61,7 @@ text_read_lem w es ok = small_read w es (log_text w es) ok (written_small (log_s
 
 -- an accepted text is, its digits made small, the text of a log, and these are its lines and the events read
 pub accepted_text :
-    (w : ℕ) (s : List ℕ) → (log_read w s).outcome ≡ Accepted
+    (w : ℕ) (s : List ℕ) → (log_read w s).outcome ≡ Ok tt
     → (es : List Event) × AllWritable w es × (small_of (log_slots w es) s ≡ log_text w es) × ((log_read w s).lines ≡ length es) × ((k : ℕ) → event_at w s k ≡ get_or es k nothing)
 accepted_text w s e = by_case (reading w s)
   where
@@ -73,7 +72,7 @@ accepted_text w s e = by_case (reading w s)
     by_case (misformed i p r) = absurd (false≢true (ap is_accepted (sym (ap outcome_of r) ∙ e)))
 
 -- accepted exactly if it is, its digits made small, the text of a log
-pub accepted_small : (w : ℕ) (s : List ℕ) → ((log_read w s).outcome ≡ Accepted) ↔ ((es : List Event) × AllWritable w es × (small_of (log_slots w es) s ≡ log_text w es))
+pub accepted_small : (w : ℕ) (s : List ℕ) → ((log_read w s).outcome ≡ Ok tt) ↔ ((es : List Event) × AllWritable w es × (small_of (log_slots w es) s ≡ log_text w es))
 accepted_small w s = (
   λ e. let (es, ok, f, lines, at) = accepted_text w s e in (es, ok, f),
   λ (es, ok, e). ap outcome_of (small_read w es s ok e).0,

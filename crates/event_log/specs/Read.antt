@@ -1,5 +1,5 @@
 -- What reading a log gives.
-use Rattle.std.specs.Prelude.{ℕ, ◌/◌, Bool, List, eqb, length, get_or}
+use Rattle.std.specs.Prelude.{ℕ, ◌/◌, Bool, List, eqb, length, get_or, Ok, Err}
 use Rattle.text.specs.LinesRead.{lines_read, line_or}
 use Rattle.event_log.specs.Line.{line, line_bytes}
 use Rattle.event_log.specs.Log.{nothing}
@@ -7,12 +7,11 @@ use Rattle.event_log.specs.declared.Event.{Event}
 use Rattle.event_log.specs.declared.LogRead.{LogRead}
 use Rattle.answers.specs.declared.Kind.TheVariants.{LogText}
 use Rattle.answers.specs.declared.Refusal.{Refusal}
-use Rattle.answers.specs.declared.Outcome.TheVariants.{Accepted, Refused}
 use Rattle.answers.specs.Paper.{refused_at}
 
 -- with a refusal no lines are counted
 abbrev pub refused_with : Refusal → LogRead
-refused_with r = record { outcome = Refused r; lines = 0 }
+refused_with r = record { outcome = Err r; lines = 0 }
 
 -- 12 at a place
 abbrev pub refused_log : ℕ → LogRead
@@ -20,7 +19,7 @@ refused_log place = refused_with (refused_at LogText place)
 
 -- so many lines
 abbrev pub accepted_log : ℕ → LogRead
-accepted_log n = record { outcome = Accepted; lines = n }
+accepted_log n = record { outcome = Ok tt; lines = n }
 
 -- whether a text's lines are to be numbered: its first byte tells it, `n`
 unfoldable pub is_numbered : List ℕ → Bool

@@ -11,7 +11,7 @@ ghost use Rattle.event_log.specs.Lead.{leading};
 ghost use Rattle.event_log.specs.Line.{line, line_bytes};
 ghost use Rattle.event_log.specs.Read.{is_numbered, bytes_in, read_as, event_as, log_read, event_at};
 
-use answers::{Kind, Outcome, Refusal};
+use answers::{Kind, Refusal};
 use text::{Cursor, Reading, byte_at, count, expect, expect_all, hex, width_of};
 
 // Which number an event has: the one expected next, or the one that it gives.
@@ -46,7 +46,7 @@ impl Event {
 // How many lines a log has, or its refusal, and then 0.
 #[derive(Clone, Copy, Debug, PartialEq, Eq)]
 pub struct LogRead {
-    pub outcome: Outcome,
+    pub outcome: Result<(), Refusal>,
     pub lines: usize,
 }
 
@@ -145,14 +145,14 @@ fn read_lines(text: &[u8], numbered: bool, width: usize) -> LogRead
         let good = read_line(&text[at..], numbered, width).good;
         if good < bytes {
             return LogRead {
-                outcome: Outcome::Refused(Refusal::at(Kind::LogText, at + good)),
+                outcome: Err(Refusal::at(Kind::LogText, at + good)),
                 lines: 0,
             };
         }
         lines += 1;
     }
     LogRead {
-        outcome: Outcome::Accepted,
+        outcome: Ok(()),
         lines,
     }
 }

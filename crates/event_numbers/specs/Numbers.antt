@@ -1,7 +1,7 @@
 -- The numbers of events (02, h). A monitor keeps whether an event came, and which number is expected next; 2 ^ 32, the first that does not fit 32 bits,
 -- says that all are used up.
 use mathlib.Core.Logic.Iff
-use Rattle.std.specs.Prelude.{ℕ, ◌+◌, ◌-◌, ◌^◌, ◌≤◌, ◌<◌, ◌≡◌, Bool, true, false, ◌&&◌, ◌||◌, not, cond, List, [], ◌∷◌, ◌++◌, ltb, leb, replicate}
+use Rattle.std.specs.Prelude.{ℕ, ◌+◌, ◌-◌, ◌^◌, ◌≤◌, ◌<◌, ◌≡◌, Bool, true, false, ◌&&◌, ◌||◌, not, cond, List, [], ◌∷◌, ◌++◌, ltb, leb, replicate, Ok, Err}
 use Rattle.std.proofs.Math.Path.{refl}
 use Rattle.std.proofs.Math.Bool.{So}
 use Rattle.meaning.specs.Says.{Says}
@@ -11,8 +11,7 @@ use Rattle.words.specs.Truth.{says_and, says_implies, says_itself}
 use Rattle.words.specs.Tests.{lt_says, le_says}
 use Rattle.answers.specs.declared.Kind.TheVariants.{IllegalEvent, Number as NumberKind}
 use Rattle.answers.specs.declared.Refusal.{Refusal}
-use Rattle.answers.specs.declared.Outcome.{Outcome}
-use Rattle.answers.specs.declared.Outcome.TheVariants.{Accepted, Refused}
+use Rattle.answers.specs.Results.{Outcome}
 use Rattle.answers.specs.Paper.{refused_at}
 use Rattle.event_log.specs.declared.Event.{Event}
 use Rattle.event_log.specs.declared.Num.{Num}
@@ -64,22 +63,22 @@ in_turn_says seen expected n =
 -- 10, and then 16
 unfoldable pub event_outcome : Event → ℕ → Bool → ℕ → Outcome
 event_outcome e props seen expected =
-    cond (legal_of e props) (cond (in_turn seen expected (number_of e.num expected)) Accepted (Refused (refused_at NumberKind 0))) (Refused (refused_at IllegalEvent 0))
+    cond (legal_of e props) (cond (in_turn seen expected (number_of e.num expected)) (Ok tt) (Err (refused_at NumberKind 0))) (Err (refused_at IllegalEvent 0))
 
 -- ---- for code
 
 module _ (e : Event) (props : ℕ) (seen : Bool) (expected : ℕ) where
-  pub event_illegal : {r : Refusal} → legal_of e props ≡ false → r ≡ refused_at IllegalEvent 0 → Refused r ≡ event_outcome e props seen expected
+  pub event_illegal : {r : Refusal} → legal_of e props ≡ false → r ≡ refused_at IllegalEvent 0 → Err r ≡ event_outcome e props seen expected
   unfolding event_outcome
   event_illegal bad is = rw (is, bad) refl
 
   module _ {n : ℕ} {b : Bool} (legal : legal_of e props ≡ true) (number : n ≡ number_of e.num expected) (test : b ≡ in_turn seen expected n) where
-    event_by : (t : Bool) → b ≡ t → cond t Accepted (Refused (refused_at NumberKind 0)) ≡ event_outcome e props seen expected
+    event_by : (t : Bool) → b ≡ t → cond t (Ok tt) (Err (refused_at NumberKind 0)) ≡ event_outcome e props seen expected
     unfolding event_outcome
     event_by t is = rw (legal, ← number, ← test, is) refl
 
-    pub event_good : b ≡ true → Accepted ≡ event_outcome e props seen expected
+    pub event_good : b ≡ true → (Ok tt) ≡ event_outcome e props seen expected
     event_good is = event_by true is
 
-    pub event_stray : {r : Refusal} → b ≡ false → r ≡ refused_at NumberKind 0 → Refused r ≡ event_outcome e props seen expected
+    pub event_stray : {r : Refusal} → b ≡ false → r ≡ refused_at NumberKind 0 → Err r ≡ event_outcome e props seen expected
     event_stray bad is = rw is (event_by false bad)

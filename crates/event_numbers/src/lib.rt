@@ -4,7 +4,7 @@
 ghost use Rattle.std.specs.Prelude.{◌≡◌};
 ghost use Rattle.event_numbers.specs.Numbers.{number_of, missing_of, in_turn, event_outcome};
 
-use answers::{Kind, Outcome, Refusal};
+use answers::{Kind, Refusal};
 use event_log::{Event, Num};
 
 // Numbers have 32 bits. Expected behind the last of them, this says that they are used up.
@@ -47,14 +47,14 @@ fn in_turn(seen: bool, expected: u64, number: u64) -> bool
 
 // Checks 10 and 16.
 #[tactic(auto, unfolding(crate::specs::Numbers::event_outcome))]
-pub fn check_event(event: Event, props: usize, seen: bool, expected: u64) -> Outcome
+pub fn check_event(event: Event, props: usize, seen: bool, expected: u64) -> Result<(), Refusal>
     ensures { result ≡ event_outcome event props seen expected }
 {
     if !event_log::is_legal(event, props) {
-        return Outcome::Refused(Refusal::at(Kind::IllegalEvent, 0));
+        return Err(Refusal::at(Kind::IllegalEvent, 0));
     }
     if !in_turn(seen, expected, number_of(event.num, expected)) {
-        return Outcome::Refused(Refusal::at(Kind::Number, 0));
+        return Err(Refusal::at(Kind::Number, 0));
     }
-    Outcome::Accepted
+    Ok(())
 }

@@ -1,6 +1,6 @@
 -- WHAT `make_machine` ANSWERS, WRITES AND LEAVES (02, g): the checks in their order, and behind them the fixed machine of the monitor. What must be believed is
 -- here: `step_at`, `shown_in`, `Machined`; with columns/specs/Columns (columns), machines/specs/Machine and Made (machines) and Bytes (their bytes).
-use Rattle.std.specs.Prelude.{ℕ, ◌≤◌, ◌<◌, ◌≡◌, Bool, true, false, List, leb, length, get_or, replicate}
+use Rattle.std.specs.Prelude.{ℕ, ◌≤◌, ◌<◌, ◌≡◌, Bool, true, false, List, leb, length, get_or, replicate, Result, Ok, Err}
 use Rattle.std.proofs.Math.Path.{refl, ap}
 use Rattle.std.proofs.Common.{sym, subst, ◌∙◌}
 use borrow.Author.Tests.{lt-leb, le-leb}
@@ -12,8 +12,7 @@ use Rattle.model.proofs.Lives.{live_set_lem}
 use Rattle.model.proofs.Rule.{opening_sets, step_sets}
 use Rattle.model.specs.Monitor as model
 use Rattle.answers.specs.declared.Kind.TheVariants.{Counts, Room}
-use Rattle.answers.specs.declared.Outcome.{Outcome}
-use Rattle.answers.specs.declared.Outcome.TheVariants.{Accepted, Refused}
+use Rattle.answers.specs.Results.{Outcome}
 use Rattle.answers.specs.declared.Refusal.{Refusal}
 use Rattle.answers.specs.Paper.{refused_at}
 use Rattle.answers.specs.Chain.{and_then, unless}
@@ -38,8 +37,7 @@ use Rattle.columns.specs.Columns.{columns_of, event_at, count_of}
 use Rattle.columns.proofs.Columns.{columns_count, columns_at}
 use Rattle.machines.specs.Coded.{Coded, coded_made, coded_more, coded_back}
 use Rattle.explored.specs.States.{lamp_number, block_of, monitor_in, block_after, answer_of, block_back}
-use Rattle.fixed_machine.specs.declared.Made.{Made}
-use Rattle.fixed_machine.specs.declared.Made.TheVariants as Mades
+use Rattle.fixed_machine.specs.declared.Size.{Size}
 use Rattle.fixed_machine.specs.Worked.{Worked, over, made, WorkedOn}
 
 -- ---- what is believed
@@ -53,37 +51,37 @@ abbrev pub shown_in : model.Monitor → ℕ
 shown_in m = lamp_number (lamp_in m)
 
 -- 15, or the machine that is made of the monitor from the opening on, or 11
-abbrev pub WorkedFor : run.Plant → Formula → List ℕ → List ℕ → Made → Type 0
+abbrev pub WorkedFor : run.Plant → Formula → List ℕ → List ℕ → Result Size Refusal → Type 0
 WorkedFor T f old new r = Worked (length (columns_of T.props)) (step_at T f (live_set T f)) shown_in (model.opening T f (live_set T f)) old new r
 
 -- a refusal before the work leaves everything as it was; behind it the words end 0, whatever the answer
-abbrev pub MachinedAs : run.Plant → Formula → Outcome → List ℕ → List ℕ → List ℕ → List ℕ → Made → Type 0
-MachinedAs T f (Refused x) work left old new r = (r ≡ Mades.Refused x) × (left ≡ work) × (new ≡ old)
-MachinedAs T f Accepted work left old new r = (left ≡ replicate (length work) 0) × WorkedFor T f old new r
+abbrev pub MachinedAs : run.Plant → Formula → Outcome → List ℕ → List ℕ → List ℕ → List ℕ → Result Size Refusal → Type 0
+MachinedAs T f (Err x) work left old new r = (r ≡ Err x) × (left ≡ work) × (new ≡ old)
+MachinedAs T f (Ok _) work left old new r = (left ≡ replicate (length work) 0) × WorkedFor T f old new r
 
 module _ (p : Plant) (fair label next : List ℕ) (rule : Rule) where
   -- 1, also for more than three propositions, 2, 9, and 11 for fewer words than 49,152
   unfoldable pub machine_outcome : ℕ → Outcome
   machine_outcome words = and_then (unless (leb p.props 3) Counts) (and_then (input_outcome p fair label next rule) (unless (leb 49152 words) Room))
 
-  abbrev pub Machined : List ℕ → List ℕ → List ℕ → List ℕ → Made → Type 0
+  abbrev pub Machined : List ℕ → List ℕ → List ℕ → List ℕ → Result Size Refusal → Type 0
   Machined work left old new r = MachinedAs (plant_of p fair label next) (formula_of rule) (machine_outcome (length work)) work left old new r
 
   -- ---- the outcomes
 
-  pub outcome_many : (words : ℕ) → 3 < p.props → machine_outcome words ≡ Refused (refused_at Counts 0)
+  pub outcome_many : (words : ℕ) → 3 < p.props → machine_outcome words ≡ Err (refused_at Counts 0)
   unfolding machine_outcome
   outcome_many words l = rw (lt-leb p.props 3 l) refl
 
-  pub outcome_input : (words : ℕ) {x : Refusal} → p.props ≤ 3 → input_outcome p fair label next rule ≡ Refused x → machine_outcome words ≡ Refused x
+  pub outcome_input : (words : ℕ) {x : Refusal} → p.props ≤ 3 → input_outcome p fair label next rule ≡ Err x → machine_outcome words ≡ Err x
   unfolding machine_outcome
   outcome_input words l e = rw (le-leb p.props 3 l, e) refl
 
-  pub outcome_room : (words : ℕ) → p.props ≤ 3 → input_outcome p fair label next rule ≡ Accepted → words < 49152 → machine_outcome words ≡ Refused (refused_at Room 0)
+  pub outcome_room : (words : ℕ) → p.props ≤ 3 → input_outcome p fair label next rule ≡ Ok tt → words < 49152 → machine_outcome words ≡ Err (refused_at Room 0)
   unfolding machine_outcome
   outcome_room words l e h = rw (le-leb p.props 3 l, e, lt-leb 49152 words h) refl
 
-  pub outcome_good : (words : ℕ) → p.props ≤ 3 → input_outcome p fair label next rule ≡ Accepted → 49152 ≤ words → machine_outcome words ≡ Accepted
+  pub outcome_good : (words : ℕ) → p.props ≤ 3 → input_outcome p fair label next rule ≡ Ok tt → 49152 ≤ words → machine_outcome words ≡ Ok tt
   unfolding machine_outcome
   outcome_good words l e h = rw (le-leb p.props 3 l, e, le-leb 49152 words h) refl
 
@@ -92,9 +90,9 @@ module _ (p : Plant) (fair label next : List ℕ) (rule : Rule) where
   outcome_prepared e h = sym (prepare_outcome p fair label next rule) ∙ sym (ap (λ (x : Prepared). x.outcome) e) ∙ h
 
   -- a refusal, and what is made
-  pub machined_refused : (work old : List ℕ) {x r : Refusal} → machine_outcome (length work) ≡ Refused x → r ≡ x → Machined work work old old (Mades.Refused r)
+  pub machined_refused : (work old : List ℕ) {x r : Refusal} → machine_outcome (length work) ≡ Err x → r ≡ x → Machined work work old old (Err r)
   machined_refused work old {x} {r} e same =
-      subst (λ (o : Outcome). MachinedAs (plant_of p fair label next) (formula_of rule) o work work old old (Mades.Refused r)) (sym e) (ap Mades.Refused same, refl, refl)
+      subst (λ (o : Outcome). MachinedAs (plant_of p fair label next) (formula_of rule) o work work old old (Err r)) (sym e) (ap Err same, refl, refl)
 
 -- ---- the same in words, as the code has it
 
@@ -138,7 +136,7 @@ module _ (p : Plant) (fair label next : List ℕ) (rule : Rule) (given : Input p
   }
 
   -- what is made of the words is made of the monitor
-  pub worked_for : {live old new : List ℕ} {r : Made} → live ≡ live_set T f → WorkedOn p.start p.props label next rule live old new r → WorkedFor T f old new r
+  pub worked_for : {live old new : List ℕ} {r : Result Size Refusal} → live ≡ live_set T f → WorkedOn p.start p.props label next rule live old new r → WorkedFor T f old new r
   worked_for {live} {old} {new} {r} is w =
       subst (λ (c : ℕ). Worked c (step_at T f (live_set T f)) shown_in (model.opening T f (live_set T f)) old new r) (sym (columns_count p.props given.table.some_props few))
       (go (subst (λ (l : List ℕ). WorkedOn p.start p.props label next rule l old new r) is w))
@@ -147,6 +145,6 @@ module _ (p : Plant) (fair label next : List ℕ) (rule : Rule) (given : Input p
       go (over many e s) = over (coded_more _ _ _ _ _ _ _ _ _ coded many) e s
       go (made m few m-made laid) = made m (λ many. few (coded_back _ _ _ _ _ _ _ _ _ coded many)) (coded_made _ _ _ _ _ _ _ _ _ coded m-made) laid
 
-  pub machined_made : (work : List ℕ) {live left old new : List ℕ} {r : Made} → machine_outcome p fair label next rule (length work) ≡ Accepted → live ≡ live_set T f
+  pub machined_made : (work : List ℕ) {live left old new : List ℕ} {r : Result Size Refusal} → machine_outcome p fair label next rule (length work) ≡ Ok tt → live ≡ live_set T f
       → WorkedOn p.start p.props label next rule live old new r → left ≡ replicate (length work) 0 → Machined p fair label next rule work left old new r
   machined_made work {live} {left} {old} {new} {r} e is w zero = subst (λ (o : Outcome). MachinedAs T f o work left old new r) (sym e) (zero, worked_for is w)

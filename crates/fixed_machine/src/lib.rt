@@ -9,7 +9,7 @@ ghost use Rattle.machines.specs.Joined.{joined};
 ghost use Rattle.fixed_machine.specs.Worked.{Laid, machine_in, WorkedIn, WorkedOn};
 ghost use Rattle.fixed_machine.specs.Machined.{Machined};
 
-use answers::{Kind, Outcome, Refusal};
+use answers::{Kind, Refusal};
 use explored::{explore, read_outputs};
 use joined::numbers::join;
 use machine_bytes::write_table;
@@ -37,14 +37,8 @@ impl Size {
     pub const WORDS: usize = 49152;
 }
 
-#[derive(Clone, Copy)]
-pub enum Made {
-    Rows(Size),
-    Refused(Refusal),
-}
-
 // The rows found, joined and written; 11 where they find no room.
-fn lay(room: &[u64], n: usize, c: usize, machine: &mut [u8]) -> Made
+fn lay(room: &[u64], n: usize, c: usize, machine: &mut [u8]) -> Result<Size, Refusal>
     requires { (n ≤ 256) × (1 ≤ c) × (c ≤ 54) × (33280 ≤ length room.now) × Proper c (machine_in room.now n c) }
     ensures { Laid c (joined c (machine_in room.now n c)) machine.old machine.new result }
 {
@@ -56,10 +50,10 @@ fn lay(room: &[u64], n: usize, c: usize, machine: &mut [u8]) -> Made
     let count = join(&outputs, cells, n, c, &mut class, &mut fresh) as usize;
     let bytes = c + 2;
     if machine.len() < count * bytes {
-        return Made::Refused(Refusal::at(Kind::Room, 0));
+        return Err(Refusal::at(Kind::Room, 0));
     }
     write_table(&outputs, cells, n, c, &class, count, machine);
-    Made::Rows(Size { rows: count, bytes })
+    Ok(Size { rows: count, bytes })
 }
 
 // Found, joined and written, from the opening on; 15 where more than 256 states are reached. The words end 0 either way.
@@ -72,14 +66,14 @@ fn work_in(
     c: usize,
     work: &mut [u64],
     machine: &mut [u8],
-) -> Made
+) -> Result<Size, Refusal>
     requires { ((length label.now ≤ 64) × (ways.count ≤ 64)) × (1 ≤ c) × (c ≤ 54) × (49152 ≤ length work.old) }
     ensures made { WorkedIn label.now next.now ways live.words first c machine.old machine.new result }
     ensures words { work.new ≡ replicate (length work.old) 0 }
 {
     let n = explore(label, next, ways, live, first, c, work);
     let made = if n == 0 {
-        Made::Refused(Refusal::at(Kind::Rows, 0))
+        Err(Refusal::at(Kind::Rows, 0))
     } else {
         lay(work, n, c, machine)
     };
@@ -96,7 +90,7 @@ fn work_on(
     live: Pairs,
     work: &mut [u64],
     machine: &mut [u8],
-) -> Made
+) -> Result<Size, Refusal>
     requires { Ready label.now rule × (49152 ≤ length work.old) }
     ensures made { WorkedOn plant.start plant.props label.now next.now rule live.words machine.old machine.new result }
     ensures words { work.new ≡ replicate (length work.old) 0 }
@@ -124,20 +118,16 @@ pub fn make_machine(
     rule: Rule,
     work: &mut [u64],
     machine: &mut [u8],
-) -> Made
+) -> Result<Size, Refusal>
     ensures { Machined plant fair.now label.now next.now rule work.old work.new machine.old machine.new result }
 {
     if Size::PROPS < plant.props {
-        return Made::Refused(Refusal::at(Kind::Counts, 0));
+        return Err(Refusal::at(Kind::Counts, 0));
     }
     let prepared = live::prepare(plant, fair, label, next, rule);
-    match prepared.outcome {
-        Outcome::Refused(refusal) => Made::Refused(refusal),
-        Outcome::Accepted => {
-            if work.len() < Size::WORDS {
-                return Made::Refused(Refusal::at(Kind::Room, 0));
-            }
-            work_on(plant, label, next, rule, prepared.live, work, machine)
-        }
+    prepared.outcome?;
+    if work.len() < Size::WORDS {
+        return Err(Refusal::at(Kind::Room, 0));
     }
+    work_on(plant, label, next, rule, prepared.live, work, machine)
 }

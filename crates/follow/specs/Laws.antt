@@ -1,7 +1,7 @@
 -- OF TWENTY BYTES AT MOST ONE ENDS AN EVENT'S LINE (`one_event`), and A SCRAP THAT IS NOT REFUSED MAKES THE LOG LONGER by as many bytes as it has (`gets_longer`).
 use Prim.Native.Nat.{ℕ, zero, suc, ◌+◌, ◌*◌, ◌≤◌, ◌<◌}
 use native.Mathlib.Omega.{arith}
-use Rattle.std.specs.Prelude.{◌≡◌, Bool, true, false, cond, ltb, leb}
+use Rattle.std.specs.Prelude.{◌≡◌, Bool, true, false, cond, ltb, leb, Ok, Err}
 use Rattle.std.proofs.Math.Path.{refl, ap}
 use Rattle.std.proofs.Common.{sym, ◌∙◌, ⊎_elim, length-append}
 use Rattle.std.proofs.Math.Bool.{So}
@@ -11,10 +11,8 @@ use borrow.Author.Tests.{leb-true, lt-ltb}
 use Rattle.std.proofs.Math.ListN.{length, length-take}
 use Rattle.answers.specs.declared.Kind.TheVariants.{Room, LogText, LogLength}
 use Rattle.answers.specs.declared.Refusal.{Refusal}
-use Rattle.answers.specs.declared.Answer.{Answer}
-use Rattle.answers.specs.declared.Answer.TheVariants as Answers
-use Rattle.answers.specs.declared.Outcome.{Outcome}
-use Rattle.answers.specs.declared.Outcome.TheVariants.{Accepted, Refused}
+use Rattle.answers.specs.Results.{Answer}
+use Rattle.answers.specs.Results.{Outcome}
 use Rattle.answers.specs.Paper.{number_of, refused_at}
 use Rattle.answers.specs.Chain.{is_accepted, unless, chain_accepts, unless_accepts}
 use Rattle.pairs.specs.declared.Pairs.{Pairs}
@@ -37,7 +35,7 @@ use Rattle.scraps.specs.Calls.{longest, lines_in, room_outcome, heard_answer, to
 use Rattle.scraps.specs.Laws.{take_parts, fit}
 use Rattle.follow.specs.AtOnce.{events_in, goes_on, bytes_heard}
 
-refused_not : {r : Refusal} → Refused r ≡ Accepted → ⊥
+refused_not : {r : Refusal} → Err r ≡ Ok tt → ⊥
 refused_not e = false≢true (ap is_accepted e)
 
 module _ (w : ℕ) (step : Monitor → Event → Watched) where
@@ -56,7 +54,7 @@ module _ (w : ℕ) (step : Monitor → Event → Watched) where
         by_form false = omega arith
 
     few_answered : (k : ℕ) (h : Heard) (q : List ℕ) (s : Watched) (a : Answer) → length q ≡ length h.ear.part + 1 → bytes_in w q ≤ length q → Few k h → Few (suc k) (answered h q s a)
-    few_answered k h q s (Answers.Shown l) long whole few = λ some. by_count (length h.verdicts) refl
+    few_answered k h q s (Ok l) long whole few = λ some. by_count (length h.verdicts) refl
       where
         more : length (h.verdicts ++ number_of l.verdict ∷ []) ≡ length h.verdicts + 1
         more = length-append h.verdicts (number_of l.verdict ∷ [])
@@ -64,11 +62,11 @@ module _ (w : ℕ) (step : Monitor → Event → Watched) where
         by_count : (n : ℕ) → length h.verdicts ≡ n → 20 * length (h.verdicts ++ number_of l.verdict ∷ []) + 0 ≤ suc k + 19
         by_count zero e = omega (arith, more, e)
         by_count (suc n) e = omega (arith, more, e, few (omega (arith, e)), line_long q, whole, long)
-    few_answered k h q s (Answers.Refused r) long whole few = λ some. omega (arith, few some)
+    few_answered k h q s (Err r) long whole few = λ some. omega (arith, few some)
 
     few_byte : (k : ℕ) (h : Heard) (b : ℕ) (o : Outcome) → Few k h → Few (suc k) (byte_heard w step o h b)
-    few_byte k h b (Refused r) few = λ some. omega (arith, few some)
-    few_byte k h b Accepted few = by_test (begins w h.ear.form q)
+    few_byte k h b (Err r) few = λ some. omega (arith, few some)
+    few_byte k h b (Ok _) few = by_test (begins w h.ear.form q)
       where
         q : List ℕ
         q = h.ear.part ++ b ∷ []
@@ -104,13 +102,13 @@ module _ (w : ℕ) (step : Monitor → Event → Watched) where
   abbrev total : Heard → ℕ
   total h = h.ear.start + length h.ear.part
 
-  one_answered : (h : Heard) (q : List ℕ) (s : Watched) (a : Answer) → length q ≡ length h.ear.part + 1 → (answered h q s a).ear.standing ≡ Accepted → total (answered h q s a) ≡ total h + 1
-  one_answered h q s (Answers.Shown l) long goes = omega (arith, long)
-  one_answered h q s (Answers.Refused r) long goes = absurd (refused_not goes)
+  one_answered : (h : Heard) (q : List ℕ) (s : Watched) (a : Answer) → length q ≡ length h.ear.part + 1 → (answered h q s a).ear.standing ≡ Ok tt → total (answered h q s a) ≡ total h + 1
+  one_answered h q s (Ok l) long goes = omega (arith, long)
+  one_answered h q s (Err r) long goes = absurd (refused_not goes)
 
-  one_byte : (h : Heard) (b : ℕ) (o : Outcome) → h.ear.standing ≡ o → (byte_heard w step o h b).ear.standing ≡ Accepted → total (byte_heard w step o h b) ≡ total h + 1
-  one_byte h b (Refused r) e goes = absurd (refused_not (sym e ∙ goes))
-  one_byte h b Accepted e goes = by_test (begins w h.ear.form q) goes
+  one_byte : (h : Heard) (b : ℕ) (o : Outcome) → h.ear.standing ≡ o → (byte_heard w step o h b).ear.standing ≡ Ok tt → total (byte_heard w step o h b) ≡ total h + 1
+  one_byte h b (Err r) e goes = absurd (refused_not (sym e ∙ goes))
+  one_byte h b (Ok _) e goes = by_test (begins w h.ear.form q) goes
     where
       q : List ℕ
       q = h.ear.part ++ b ∷ []
@@ -118,24 +116,24 @@ module _ (w : ℕ) (step : Monitor → Event → Watched) where
       long : length q ≡ length h.ear.part + 1
       long = length-append h.ear.part (b ∷ [])
 
-      by_size : (t : Bool) → (cond t (kept h q) (ended w step h q)).ear.standing ≡ Accepted → total (cond t (kept h q) (ended w step h q)) ≡ total h + 1
+      by_size : (t : Bool) → (cond t (kept h q) (ended w step h q)).ear.standing ≡ Ok tt → total (cond t (kept h q) (ended w step h q)) ≡ total h + 1
       by_size true goes = omega (arith, long)
       by_size false goes = one_answered h q (step h.ear.monitor (event_at w q 0)) (step h.ear.monitor (event_at w q 0)).answer long goes
 
-      by_test : (t : Bool) → (cond t (lengthened w step h q) (stopped h (refused_at LogText (h.ear.start + length h.ear.part)))).ear.standing ≡ Accepted
+      by_test : (t : Bool) → (cond t (lengthened w step h q) (stopped h (refused_at LogText (h.ear.start + length h.ear.part)))).ear.standing ≡ Ok tt
           → total (cond t (lengthened w step h q) (stopped h (refused_at LogText (h.ear.start + length h.ear.part)))) ≡ total h + 1
       by_test true goes = by_size (ltb (length q) (bytes_in w q)) goes
       by_test false goes = absurd (refused_not goes)
 
-  every_byte : (s : List ℕ) (h : Heard) → (hear_all w step h s).ear.standing ≡ Accepted → total (hear_all w step h s) ≡ total h + length s
+  every_byte : (s : List ℕ) (h : Heard) → (hear_all w step h s).ear.standing ≡ Ok tt → total (hear_all w step h s) ≡ total h + length s
   unfolding hear
   every_byte [] h goes = omega arith
   every_byte (b ∷ s) h goes = by_standing (hear w step h b).ear.standing refl (every_byte s (hear w step h b) goes)
     where
       by_standing : (o : Outcome) → (hear w step h b).ear.standing ≡ o → total (hear_all w step (hear w step h b) s) ≡ total (hear w step h b) + length s
           → total (hear_all w step (hear w step h b) s) ≡ total h + suc (length s)
-      by_standing Accepted e rest = omega (arith, rest, one_byte h b h.ear.standing refl e)
-      by_standing (Refused r) e rest = absurd (refused_not (sym e ∙ ap (λ (g : Heard). g.ear.standing) (sym (hears_no_more w step (hear w step h b) e s)) ∙ goes))
+      by_standing (Ok _) e rest = omega (arith, rest, one_byte h b h.ear.standing refl e)
+      by_standing (Err r) e rest = absurd (refused_not (sym e ∙ ap (λ (g : Heard). g.ear.standing) (sym (hears_no_more w step (hear w step h b) e s)) ∙ goes))
 
 -- ---- of the call
 
@@ -144,23 +142,23 @@ module _ (p : Plant) (fair label next : List ℕ) (rule : Rule) (live : Pairs) (
   behind = hear_all (width_of p.props) (step_call p fair label next rule live) (heard_by r []) scrap
 
   counted : (o : Outcome) (n : ℕ) → events_in (heard_answer o n) ≡ n
-  counted Accepted n = refl
-  counted (Refused x) n = refl
+  counted (Ok _) n = refl
+  counted (Err x) n = refl
 
   few_events : length scrap ≤ 20 → (o : Outcome) → events_in (took_by o r behind).taken.answer ≤ 1
-  few_events short Accepted =
+  few_events short (Ok _) =
       omega (arith, counted behind.ear.standing (length behind.verdicts), few_verdicts (width_of p.props) (step_call p fair label next rule live) (width_between p.props).0 scrap (heard_by r []) refl short)
-  few_events short (Refused x) = omega arith
+  few_events short (Err x) = omega arith
 
-  goes_accepted : (o : Outcome) (n : ℕ) → So (goes_on (heard_answer o n)) → o ≡ Accepted
-  goes_accepted Accepted n goes = refl
-  goes_accepted (Refused x) n goes = absurd (false≢true goes)
+  goes_accepted : (o : Outcome) (n : ℕ) → So (goes_on (heard_answer o n)) → o ≡ Ok tt
+  goes_accepted (Ok _) n goes = refl
+  goes_accepted (Err x) n goes = absurd (false≢true goes)
 
   longer_by : length r.part ≡ 40 → (o : Outcome) → take_outcome p fair label next rule live r scrap room ≡ o → So (goes_on (took_by o r behind).taken.answer)
       → (bytes_heard (took_by o r behind).taken.radio ≡ bytes_heard r + length scrap) × (bytes_heard r + length scrap ≤ longest)
   unfolding radio_of room_outcome
-  longer_by full (Refused x) e goes = absurd (false≢true goes)
-  longer_by full Accepted e goes =
+  longer_by full (Err x) e goes = absurd (false≢true goes)
+  longer_by full (Ok _) e goes =
       let (keeps, fits) = take_parts p fair label next rule live r scrap room e in
       let ready = fit p fair label next rule live r keeps full scrap room fits in
       let (a, b) = (chain_accepts (unless (leb (lines_in scrap) room) Room) (unless (leb (r.start + r.len + length scrap) longest) LogLength)).0 fits in

@@ -8,7 +8,7 @@ ghost use Rattle.opened.specs.Lent.{Lent};
 ghost use Rattle.scraps.specs.Calls.{longest};
 ghost use Rattle.follow.specs.AtOnce.{events_in, goes_on, bytes_heard, Onward};
 
-use answers::{Answer, Kind, Outcome, Refusal};
+use answers::{Answer, Kind, Refusal};
 use controller::LogAnswer;
 use pairs::Pairs;
 use plant::{Plant, Table};
@@ -31,8 +31,8 @@ fn main(rt: HostRuntime) {
 fn with_folder<R: Files + Print, I: Read>(rt: &R, input: &mut I, folder: &[u8]) {
     let read = read_plant(rt, folder);
     match read.outcome {
-        Outcome::Refused(refusal) => refuse(rt, refusal),
-        Outcome::Accepted => with_table(rt, input, folder, read.table),
+        Err(refusal) => refuse(rt, refusal),
+        Ok(()) => with_table(rt, input, folder, read.table),
     }
 }
 
@@ -64,8 +64,8 @@ fn with_parts<R: Files + Print, I: Read>(
 ) {
     let read = read_rule(rt, folder, plant, fair, label, next);
     match read.outcome {
-        Outcome::Refused(refusal) => refuse(rt, refusal),
-        Outcome::Accepted => with_rule(rt, input, plant, fair, label, next, read.rule),
+        Err(refusal) => refuse(rt, refusal),
+        Ok(()) => with_rule(rt, input, plant, fair, label, next, read.rule),
     }
 }
 
@@ -82,8 +82,8 @@ fn with_rule<P: Print, I: Read>(
     let live = live::prepare(plant, fair, label, next, rule).live;
     let opened = monitor::open(plant, fair, label, next, rule, live);
     match opened.answer {
-        Answer::Refused(refusal) => refuse(to, refusal),
-        Answer::Shown(lamp) => {
+        Err(refusal) => refuse(to, refusal),
+        Ok(lamp) => {
             show(to, report::start_line(lamp));
             follow(
                 to,
@@ -109,7 +109,7 @@ fn silent(monitor: Monitor) -> Radio
         len: 0,
         start: 0,
         form: Form::Unknown,
-        standing: Outcome::Accepted,
+        standing: Ok(()),
         monitor,
     }
 }
@@ -248,8 +248,8 @@ fn tell<P: Print>(to: &P, monitor: Monitor) {
 }
 
 // The end: a refusal is written.
-fn end<P: Print>(to: &P, outcome: Outcome) {
-    if let Outcome::Refused(refusal) = outcome {
+fn end<P: Print>(to: &P, outcome: Result<(), Refusal>) {
+    if let Err(refusal) = outcome {
         refuse(to, refusal);
     }
 }

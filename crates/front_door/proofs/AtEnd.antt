@@ -1,6 +1,6 @@
 -- What stands behind a log, for the calls that judge it there: any texts are answered as a whole log is, the end is that of the log's course, and behind events that are all accepted
 -- the verdict there is right.
-use Rattle.std.specs.Prelude.{ℕ, ◌≤◌, ◌<◌, ◌≡◌, true, List, leb, length, take}
+use Rattle.std.specs.Prelude.{ℕ, ◌≤◌, ◌<◌, ◌≡◌, true, List, leb, length, take, Ok, Err}
 use Rattle.std.proofs.Common.{arith, div-le_self, sym, subst, ◌∙◌, le-leb}
 use Rattle.std.proofs.Math.Path.{refl, ap}
 use Rattle.std.proofs.Math.Seq.{take-length}
@@ -10,8 +10,7 @@ use Rattle.meaning.specs.Limits.{AcceptedTable}
 use Rattle.text.specs.Number.{width_of}
 use Rattle.answers.specs.declared.Lamp.{Lamp}
 use Rattle.answers.specs.declared.Kind.TheVariants.{Room}
-use Rattle.answers.specs.declared.Outcome.{Outcome}
-use Rattle.answers.specs.declared.Outcome.TheVariants.{Accepted, Refused}
+use Rattle.answers.specs.Results.{Outcome}
 use Rattle.answers.specs.Chain.{and_then, unless}
 use Rattle.plant.specs.Read.{counts_in}
 use Rattle.syntax.specs.Value.{rule_of}
@@ -40,7 +39,7 @@ use Rattle.front_door.proofs.OneOutput.{lit_right}
 -- ---- any texts
 
 -- a log has no more lines than bytes
-few_lines : (width : ℕ) (log : List ℕ) → (log_read width log).outcome ≡ Accepted → (log_read width log).lines ≤ length log
+few_lines : (width : ℕ) (log : List ℕ) → (log_read width log).outcome ≡ Ok tt → (log_read width log).lines ≤ length log
 few_lines width log ok =
     let (es, fine, small, lines, at) = accepted_text width log ok in
     omega (arith, lines, (lines_many width es log fine small).0, div-le_self (length log) (bytes_in width log))
@@ -49,15 +48,15 @@ module _ (o : Opened) (log : List ℕ) (room : ℕ) where
   abbrev read : LogRead
   read = log_read (width_of o.table.plant.props) log
 
-  by_log : (x : Outcome) → (x ≡ Accepted → leb read.lines room ≡ true) → (heard_in (and_then x (unless (leb read.lines room) Room)) o log).answer ≡ (end_in x o log).answer
-  by_log Accepted h = rw (h refl) refl
-  by_log (Refused r) h = refl
+  by_log : (x : Outcome) → (x ≡ Ok tt → leb read.lines room ≡ true) → (heard_in (and_then x (unless (leb read.lines room) Room)) o log).answer ≡ (end_in x o log).answer
+  by_log (Ok _) h = rw (h refl) refl
+  by_log (Err r) h = refl
 
-  by_opened : (x : Outcome) → (read.outcome ≡ Accepted → leb read.lines room ≡ true)
+  by_opened : (x : Outcome) → (read.outcome ≡ Ok tt → leb read.lines room ≡ true)
       → (heard_in (and_then x (log_checked o.table.plant.props log room)) o log).answer ≡ (end_in (and_then x read.outcome) o log).answer
   unfolding log_checked
-  by_opened Accepted h = by_log read.outcome h
-  by_opened (Refused r) h = refl
+  by_opened (Ok _) h = by_log read.outcome h
+  by_opened (Err r) h = refl
 
 -- where a log ends is answered what `watch_log` answers with a buffer as long as the log
 pub same_answer : (table rule log : List ℕ) (room : ℕ) → length log ≤ room → (heard_of table rule log room).answer ≡ (end_of table rule log).answer

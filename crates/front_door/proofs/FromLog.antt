@@ -1,5 +1,5 @@
 -- From texts to verdict bytes: the texts are opened, and the course of the log shows the rest. Here are the two claims of WholeLog proved, and that they leave no choice.
-use Rattle.std.specs.Prelude.{ℕ, suc, ◌≤◌, ◌<◌, ◌≡◌, length, get_or, take}
+use Rattle.std.specs.Prelude.{ℕ, suc, ◌≤◌, ◌<◌, ◌≡◌, length, get_or, take, Ok, Err}
 use Rattle.std.proofs.Common.{arith, sym, ◌∙◌, ⊎_elim, ext_get_or}
 use Rattle.std.proofs.Math.Path.{refl, ap, subst}
 use mathlib.Core.List.{List, [], ◌∷◌, map}
@@ -20,8 +20,7 @@ use Rattle.answers.specs.declared.Lamp.{Lamp}
 use Rattle.answers.specs.declared.Kind.{Kind}
 use Rattle.answers.specs.declared.Kind.TheVariants.{IllegalEvent, Number as NumberKind}
 use Rattle.answers.specs.declared.Refusal.{Refusal}
-use Rattle.answers.specs.declared.Outcome.{Outcome}
-use Rattle.answers.specs.declared.Outcome.TheVariants.{Accepted, Refused}
+use Rattle.answers.specs.Results.{Outcome}
 use Rattle.answers.specs.Paper.{number_of, refused_at}
 use Rattle.plant.specs.declared.Plant.{Plant}
 use Rattle.plant.specs.Read.{counts_in, table_of, take_padded}
@@ -160,7 +159,7 @@ module _ (t : run.Plant) (table : AcceptedTable t) (text : List ℕ) (says : Say
     heard_is log room e = ap (λ (o : Opened). heard_from o log room) behind_rule ∙ ap (λ (o : Outcome). heard_in o start log) e
 
     module _ (log : List ℕ) (es : List Event) (log_says : SaysLog (bytes log) t.props es) where
-      pub log_read_lem : log_read (width_of t.props) log ≡ record { outcome = Accepted; lines = length es }
+      pub log_read_lem : log_read (width_of t.props) log ≡ record { outcome = Ok tt; lines = length es }
       log_read_lem = ap (log_read (width_of t.props)) (ap bytes_of log_says.is) ∙ (logs_laws.small_read (width_of t.props) es log_says.text log_says.writable log_says.said).0
 
       pub taken : Taken (width_of t.props) log es
@@ -184,7 +183,7 @@ module _ (t : run.Plant) (table : AcceptedTable t) (text : List ℕ) (says : Say
       unfolding log_checked
       verdicts_right before room =
           subst (λ (h : Heard). Watches t f es before (over h.bytes before) h.answer)
-          (sym (heard_is log (length before) {o = Accepted} (rw (log_read_lem, le-leb (length es) (length before) room) refl) ∙ ap (heard_by (bytes_in (width_of t.props) log)) (course_is log)))
+          (sym (heard_is log (length before) {o = Ok tt} (rw (log_read_lem, le-leb (length es) (length before) room) refl) ∙ ap (heard_by (bytes_in (width_of t.props) log)) (course_is log)))
           (course_watches before)
 
 -- ---- THE CLAIMS
@@ -205,7 +204,7 @@ module _ (text : List ℕ) (before : List ℕ) where
     of_log rule f rule_says log = by (logs_laws.reading (width_of t.props) log)
       where
         -- by what the check of the log and the buffer says
-        refused_by_lem : {kind : Kind} {i : ℕ} → log_checked t.props log (length before) ≡ Refused (refused_at kind i) → Untouched kind i before (buffer_of text rule log before) (answer_of text rule log before)
+        refused_by_lem : {kind : Kind} {i : ℕ} → log_checked t.props log (length before) ≡ Err (refused_at kind i) → Untouched kind i before (buffer_of text rule log before) (answer_of text rule log before)
         refused_by_lem {kind} {i} e =
             subst (λ (h : Heard). Untouched kind i before (over h.bytes before) h.answer) (sym (heard_is t table text says rule f rule_says log (length before) e)) (record { refused = refl; stays = refl })
 

@@ -1,5 +1,5 @@
 -- From texts to lamps: the readers give what the texts say, and the calls show the rest. Here are the two claims of FrontDoor proved.
-use Rattle.std.specs.Prelude.{ℕ, ◌≤◌, ◌<◌, ◌≡◌, Bool, true, false, cond, List, ◌++◌, ◌↔◌, ltb, length}
+use Rattle.std.specs.Prelude.{ℕ, ◌≤◌, ◌<◌, ◌≡◌, Bool, true, false, cond, List, ◌++◌, ◌↔◌, ltb, length, Ok, Err}
 use Rattle.std.proofs.Common.{arith, ap, subst, ◌∙◌}
 use Rattle.std.proofs.Math.Path.{refl}
 use Rattle.std.proofs.Math.Logic.{inl, inr, ⊎_elim}
@@ -13,8 +13,7 @@ use Rattle.text.specs.Form.{Form}
 use Rattle.text.specs.Cases.{below_or_beyond}
 use Rattle.answers.specs.declared.Kind.{Kind}
 use Rattle.answers.specs.declared.Kind.TheVariants.{RuleLength, RuleText, Proposition, Nodes, Parts}
-use Rattle.answers.specs.declared.Outcome.{Outcome}
-use Rattle.answers.specs.declared.Outcome.TheVariants.{Accepted, Refused}
+use Rattle.answers.specs.Results.{Outcome}
 use Rattle.plant.specs.declared.Plant.{Plant}
 use Rattle.plant.specs.Table.{table_outcome}
 use Rattle.plant.specs.Check.{accepted_exactly}
@@ -80,7 +79,7 @@ module _ (t : run.Plant) (table : AcceptedTable t) where
   ruled rule log = said.rule_text (counts_in t) t.fair t.label t.next rule log
 
   -- it passes the check
-  abbrev pub passes_check : table_outcome (counts_in t) t.fair t.label t.next ≡ Accepted
+  abbrev pub passes_check : table_outcome (counts_in t) t.fair t.label t.next ≡ Ok tt
   passes_check = (accepted_exactly (counts_in t) t.fair t.label t.next).1 (refl, table)
 
   -- the table that is said is lent, part by part
@@ -156,8 +155,8 @@ either true x y a c = a
 either false x y a c = c
 
 by_table : (o : Outcome) (x : RuleRead) → Answer x → Answer (of_table x o)
-by_table Accepted x a = a
-by_table (Refused r) x a = refuses r.kind r.place
+by_table (Ok _) x a = a
+by_table (Err r) x a = refuses r.kind r.place
 
 by_scan : (c : Scan) (x : RuleRead) → Answer x → Answer (of_scan x c)
 by_scan Good x a = a

@@ -1,7 +1,7 @@
 -- The lamps of a log, from the opening on: the calls take each event that is legal and has a number in turn, and show a right lamp, up to the first that is not.
 use Prim.Native.Nat.{ℕ, zero, suc, ◌+◌, ◌≤◌, ◌<◌}
 use Rattle.std.proofs.Common.{arith, sym, ap₂, subst, ◌∙◌, ⊎_elim, length-append, take-suc}
-use Rattle.std.specs.Prelude.{◌≡◌, Bool, true, cond, length, take}
+use Rattle.std.specs.Prelude.{◌≡◌, Bool, true, cond, length, take, Ok, Err}
 use Rattle.std.proofs.Math.Path.{refl, ap}
 use Rattle.std.proofs.Math.Bool.{false}
 use Rattle.std.proofs.lemmas.Bool.{false≢true}
@@ -23,10 +23,7 @@ use Rattle.model.specs.Monitor as model
 use Rattle.answers.specs.declared.Kind.TheVariants.{IllegalEvent, Number as NumberKind}
 use Rattle.answers.specs.declared.Refusal.{Refusal}
 use Rattle.answers.specs.declared.Lamp.{Lamp}
-use Rattle.answers.specs.declared.Answer.TheVariants.{Shown}
-use Rattle.answers.specs.declared.Answer.TheVariants as Answers
-use Rattle.answers.specs.declared.Outcome.{Outcome}
-use Rattle.answers.specs.declared.Outcome.TheVariants.{Accepted, Refused}
+use Rattle.answers.specs.Results.{Outcome}
 use Rattle.answers.specs.Paper.{refused_at}
 use Rattle.plant.specs.declared.Plant.{Plant}
 use Rattle.syntax.specs.declared.Rule.{Rule}
@@ -57,7 +54,7 @@ use Rattle.front_door.specs.FrontDoor.{LegalAt, TakenAt, RightAfter, Ends, at_en
 
 -- a log of w digits is accepted, and says these events
 pub record Taken (w : ℕ) (log : List ℕ) (es : List Event) : Type 0 where
-  pub accepts : (log_read w log).outcome ≡ Accepted
+  pub accepts : (log_read w log).outcome ≡ Ok tt
   pub events : (k : ℕ) → event_at w log k ≡ get_or es k nothing
   pub many : whole_lines w log ≡ length es
   pub wide : bytes_in w log ≡ line_bytes (first_of gives es) w
@@ -103,10 +100,10 @@ module _ (p : Plant) (fair label next : List ℕ) (rule : Rule) (input : Input p
 
   -- the course where no event was refused, and where one was
   abbrev pub standing : List Event → ℕ → List Lamp → List ℕ → Course
-  standing es n lamps named = record { went = record { outcome = Accepted; done = n; monitor = (watched (take n es)).monitor }; lamps = lamps; numbers = named }
+  standing es n lamps named = record { went = record { outcome = Ok tt; done = n; monitor = (watched (take n es)).monitor }; lamps = lamps; numbers = named }
 
   abbrev pub halted : Refusal → ℕ → Monitor → List Lamp → List ℕ → Course
-  halted r k m lamps named = record { went = record { outcome = Refused r; done = k; monitor = m }; lamps = lamps; numbers = named }
+  halted r k m lamps named = record { went = record { outcome = Err r; done = k; monitor = m }; lamps = lamps; numbers = named }
 
   one_more : (es : List Event) (n : ℕ) → n < length es → watched (take (suc n) es) ≡ calls (watched (take n es)).monitor (get_or es n nothing)
   unfolding after
@@ -137,8 +134,8 @@ module _ (p : Plant) (fair label next : List ℕ) (rule : Rule) (input : Input p
 
   -- what the check of an event gives
   data Checked (es : List Event) (n : ℕ) : Outcome → Type 0 where
-    passes : TakenAt T es n → Checked es n Accepted
-    fails : (r : Refusal) → Stop es n r → Checked es n (Refused r)
+    passes : TakenAt T es n → Checked es n (Ok tt)
+    fails : (r : Refusal) → Stop es n r → Checked es n (Err r)
 
   checked : (es : List Event) (n : ℕ) → Checked es n (event_outcome (get_or es n nothing) p.props (seen_from false (take n es)) (expected_at es n))
   unfolding event_outcome
@@ -157,7 +154,7 @@ module _ (p : Plant) (fair label next : List ℕ) (rule : Rule) (input : Input p
       not_legal h l = false≢true (sym h ∙ (legal_exactly T e).1 (omega (arith, input.table.few_props), l))
 
       by : (b : Bool) → legal_of e p.props ≡ b → (c : Bool) → in_turn (seen_from false (take n es)) (expected_at es n) (number_at es n) ≡ c
-          → Checked es n (cond b (cond c Accepted (Refused (refused_at NumberKind 0))) (Refused (refused_at IllegalEvent 0)))
+          → Checked es n (cond b (cond c (Ok tt) (Err (refused_at NumberKind 0))) (Err (refused_at IllegalEvent 0)))
       by true l true t = passes (is_legal_lem l, turn.0 t)
       by true l false t = fails _ (stray (is_legal_lem l) (λ h. false≢true (sym t ∙ turn.1 h)))
       by false l c t = fails _ (illegal (not_legal l))
@@ -201,7 +198,7 @@ module _ (p : Plant) (fair label next : List ℕ) (rule : Rule) (input : Input p
     goes_on : TakenAt T es n → Gone es (suc n) on
     goes_on t =
         rw (stepped, number_is) (all_taken (lamps ++ lamp ∷ []) long (named ++ number_at es n ∷ []) long' taken' right' numbers'
-        (ap (λ (w : Watched). record { went = record { outcome = Accepted; done = suc n; monitor = w.monitor }; lamps = lamps ++ lamp ∷ []; numbers = named ++ number_at es n ∷ [] }) (sym shown_is)))
+        (ap (λ (w : Watched). record { went = record { outcome = Ok tt; done = suc n; monitor = w.monitor }; lamps = lamps ++ lamp ∷ []; numbers = named ++ number_at es n ∷ [] }) (sym shown_is)))
       where
         taken' : TakenTo es (suc n)
         taken' k l = ⊎_elim (λ (b : k < n). taken k b) (λ (q : k ≡ n). rw q t) (below_cases l)
@@ -237,10 +234,10 @@ module _ (p : Plant) (fair label next : List ℕ) (rule : Rule) (input : Input p
             (below_cases (rw long' at l))
 
     -- and else refused, and the monitor stays
-    stops : watching.Held p fair label next rule now → (r : Refusal) → event_outcome e p.props (seen_from false (take n es)) (expected_at es n) ≡ Refused r → Stop es n r → Gone es (suc n) on
+    stops : watching.Held p fair label next rule now → (r : Refusal) → event_outcome e p.props (seen_from false (take n es)) (expected_at es n) ≡ Err r → Stop es n r → Gone es (suc n) on
     stops held r outcome why = rw refuses (stopped n (omega arith) lamps many named as_many taken r why right numbers now refl)
       where
-        refuses : calls now e ≡ record { answer = Answers.Refused r; monitor = now }
+        refuses : calls now e ≡ record { answer = Err r; monitor = now }
         refuses =
             checks_pass p fair label next rule input known fits now held e
             ∙ ap (λ (o : Outcome). monitor.watched o now (number_in now e + 1) (brought p fair label next rule known.words (model_of now) now.expected e))
@@ -276,7 +273,7 @@ module _ (p : Plant) (fair label next : List ℕ) (rule : Rule) (input : Input p
   named_lines es lamps named long numbers = lines_same (length lamps) (λ k. get_or named k 0) (number_at es) lamps (λ k l. numbers k (rw long l))
 
   -- why the output ends where it does
-  end_of : (es : List Event) (k : ℕ) → k < length es → TakenTo es k → (r : Refusal) → Stop es k r → (end : List ℕ) → end ≡ said.stop_text (Refused r) (line_of T es k) → Ends T es k end
+  end_of : (es : List Event) (k : ℕ) → k < length es → TakenTo es k → (r : Refusal) → Stop es k r → (end : List ℕ) → end ≡ said.stop_text (Err r) (line_of T es k) → Ends T es k end
   end_of es k before taken r (illegal bad) end e = rw e (at_event k before taken bad)
   end_of es k before taken r (stray fine bad) end e = rw e (at_number k before taken fine bad)
 
@@ -295,11 +292,11 @@ module _ (p : Plant) (fair label next : List ℕ) (rule : Rule) (input : Input p
   shown es output c (stopped k before lamps many named as_many taken r why right numbers m is) e = record {
     start = first;
     lamps = lamps;
-    end = said.stop_text (Refused r) (line_of T es k);
+    end = said.stop_text (Err r) (line_of T es k);
     is = e ∙ rw (is, named_lines es lamps named (as_many ∙ sym many) numbers) refl;
     start_right = first_lit;
     line_right = right;
-    ends = subst (λ (n : ℕ). Ends T es n (said.stop_text (Refused r) (line_of T es k))) (sym many) (end_of es k before taken r why _ refl);
+    ends = subst (λ (n : ℕ). Ends T es n (said.stop_text (Err r) (line_of T es k))) (sym many) (end_of es k before taken r why _ refl);
   }
 
   -- what the program writes for an accepted table and rule, and a log that is accepted
@@ -309,5 +306,5 @@ module _ (p : Plant) (fair label next : List ℕ) (rule : Rule) (input : Input p
       shown es (said.played_text p fair label next rule log) (at es (event_at (width_of p.props) log) taken.events (length es)) (gone es (event_at (width_of p.props) log) taken.events (length es) (omega arith))
       (rw ((prepare_accepted p fair label next rule (full p fair label next rule input)).1 input, opens, taken.many, taken.wide) refl)
     where
-      opens : opened.answer ≡ Shown first
+      opens : opened.answer ≡ Ok first
       opens = ap (λ (w : Watched). w.answer) (after_model p fair label next rule input [] tt)

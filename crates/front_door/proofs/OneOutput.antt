@@ -1,5 +1,5 @@
 -- The front door leaves no choice: three files say one table, one rule and one list of events, and two outputs that show what these dictate are the same bytes.
-use Rattle.std.specs.Prelude.{ℕ, ◌≤◌, ◌<◌, ◌≡◌, refl, List, ◌++◌, length, get_or}
+use Rattle.std.specs.Prelude.{ℕ, ◌≤◌, ◌<◌, ◌≡◌, refl, List, ◌++◌, length, get_or, Ok, Err}
 use Rattle.std.proofs.Common.{arith, sym, ap, ap₂, subst, ◌∙◌, ⊎_elim, ext_get_or}
 use Rattle.words.specs.Folds.{count_same}
 use Rattle.words.specs.Truth.{says_same}
@@ -16,9 +16,7 @@ use Rattle.answers.specs.declared.Verdict.{Verdict}
 use Rattle.answers.specs.declared.Verdict.TheVariants.{Inconclusive, True, False, OutOfModel}
 use Rattle.answers.specs.declared.Kind.TheVariants.{IllegalEvent, Number as NumberKind}
 use Rattle.answers.specs.declared.Lamp.{Lamp}
-use Rattle.answers.specs.declared.Answer.{Answer}
-use Rattle.answers.specs.declared.Answer.TheVariants.{Shown}
-use Rattle.answers.specs.declared.Answer.TheVariants as Answers
+use Rattle.answers.specs.Results.{Answer}
 use Rattle.answers.specs.Paper.{Paper, verdict, refused, accepted, number_of}
 use Rattle.answers.proofs.Promises.{one_answer}
 use Rattle.plant.specs.Text.{table_reads}
@@ -69,8 +67,8 @@ left_in (refused n place) = 0
 left_in (accepted ns) = 0
 
 abbrev lamp_in : Lamp → Answer → Lamp
-lamp_in other (Shown l) = l
-lamp_in other (Answers.Refused r) = other
+lamp_in other (Ok l) = l
+lamp_in other (Err r) = other
 
 module _ (t : Plant) (f : Formula) where
   -- no two verdicts are right
@@ -81,12 +79,12 @@ module _ (t : Plant) (f : Formula) where
   verdict_one OutOfModel w r s = sym (s.out_of_model.1 (r.out_of_model.0 refl))
 
   -- the verdict of a lamp that is right
-  pub lit_right : {h : History} (l : Lamp) → Lit t f h (Shown l) → Right t f h (number_of l.verdict)
+  pub lit_right : {h : History} (l : Lamp) → Lit t f h (Ok l) → Right t f h (number_of l.verdict)
   lit_right {h} l x = subst (Right t f h) (sym (ap number_in x.shown)) x.right
 
   -- so no two lamps are
-  lamp_one : {h : History} (l m : Lamp) → Lit t f h (Shown l) → Lit t f h (Shown m) → l ≡ m
-  lamp_one {h} l m a b = ap (lamp_in l) (one_answer (Shown l) (Shown m) (ap₂ verdict numbers lefts))
+  lamp_one : {h : History} (l m : Lamp) → Lit t f h (Ok l) → Lit t f h (Ok m) → l ≡ m
+  lamp_one {h} l m a b = ap (lamp_in l) (one_answer (Ok l) (Ok m) (ap₂ verdict numbers lefts))
     where
       numbers : number_of l.verdict ≡ number_of m.verdict
       numbers = verdict_one l.verdict m.verdict (lit_right l a) (lit_right m b)

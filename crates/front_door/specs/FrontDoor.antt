@@ -3,7 +3,7 @@
 -- Read beside it: meaning/specs (rules, runs, events, verdicts); the forms of the texts, `table_text` (plant/specs/Written), `SaidBy` (syntax/specs/Grammar) and `log_text` (event_log/specs/Promises);
 -- `small_of` (text/specs/Written), which makes the digits of a text small; and the lines, `start_text`, `lamp_text` and `refused_text` (report/specs/Text).
 -- `output_of` is by its contract what `write_output` (transcript/src) puts into the buffer that the program writes out.
-use Rattle.std.specs.Prelude.{ℕ, suc, ◌≤◌, ◌<◌, ◌≡◌, ◌⊎◌, List, [], ◌++◌, length, get_or, take}
+use Rattle.std.specs.Prelude.{ℕ, suc, ◌≤◌, ◌<◌, ◌≡◌, ◌⊎◌, List, [], ◌++◌, length, get_or, take, Ok}
 use Rattle.meaning.specs.Formula.{Formula, size, parts}
 use Rattle.meaning.specs.Run.{Plant}
 use Rattle.meaning.specs.Event.{since}
@@ -15,7 +15,6 @@ use Rattle.text.specs.FirstLine.{first_of}
 use Rattle.answers.specs.declared.Kind.{Kind}
 use Rattle.answers.specs.declared.Kind.TheVariants.{Bits, TableText, LogText, IllegalEvent, File as FileKind, Number as NumberKind}
 use Rattle.answers.specs.declared.Lamp.{Lamp}
-use Rattle.answers.specs.declared.Answer.TheVariants.{Shown}
 use Rattle.answers.specs.Paper.{refused_at}
 use Rattle.plant.specs.Table.{BitBeyond}
 use Rattle.plant.specs.Read.{counts_in}
@@ -91,7 +90,7 @@ TakenAt t es n = LegalAt t es n × InTurnAt es n
 -- the lamp is right behind these events, with the unseen ones put in: its verdict is what the runs of t dictate for f, and `left` counts the states in which
 -- an agreeing run can now be
 abbrev pub RightAfter : Plant → Formula → List Event → Lamp → Type 0
-RightAfter t f es lamp = Lit t f (since (filled es)) (Shown lamp)
+RightAfter t f es lamp = Lit t f (since (filled es)) (Ok lamp)
 
 -- `refused=N place=P`
 abbrev pub refused : Kind → ℕ → List ℕ

@@ -1,15 +1,16 @@
 -- WHAT THE FUNCTIONS OF THE HEADER ARE HANDED, as the values of the calls; and what they answer where a call says more than one value.
-use Rattle.std.specs.Prelude.{ℕ, ◌≡◌, Bool, not, cond, List, eqb}
+use Rattle.std.specs.Prelude.{ℕ, ◌≡◌, Bool, not, cond, List, eqb, Result}
 use Rattle.answers.specs.declared.Kind.TheVariants.{Value}
 use Rattle.plant.specs.declared.Plant.{Plant}
 use Rattle.event_log.specs.declared.Num.{Num}
 use Rattle.event_log.specs.declared.Num.TheVariants.{Expected, Given}
 use Rattle.event_log.specs.declared.Event.{Event}
 use Rattle.opened.specs.declared.Opened.{Opened}
-use Rattle.witness.specs.declared.Witnessed.{Witnessed}
+use Rattle.walk.specs.declared.Lengths.{Lengths}
 use Rattle.sheet.specs.declared.Key.TheVariants.{Edition, Rule, Closing}
 use Rattle.settings.specs.Asked.{asked, refusal_of}
-use Rattle.fixed_machine.specs.declared.Made.{Made}
+use Rattle.fixed_machine.specs.declared.Size.{Size}
+use Rattle.answers.specs.declared.Refusal.{Refusal}
 use Rattle.machine_texts.specs.Texts.{MadeFrom}
 use Rattle.slate.specs.declared.Held.{Held}
 use Rattle.told.specs.declared.Answer.{Answer}
@@ -34,11 +35,11 @@ plant_from props states start just = record { props = props; states = states; st
 
 -- a witness, or why there is none, in four numbers: the call's answer and buffer, as the call says them
 abbrev pub GoesOn : Held → Bool → List ℕ → List ℕ → Answer → Type 0
-GoesOn h keeps before now r = (x : Witnessed) × WentOn h keeps before now x × (r ≡ run_as x)
+GoesOn h keeps before now r = (x : Result Lengths Refusal) × WentOn h keeps before now x × (r ≡ run_as x)
 
 -- a machine, or why there is none, in four numbers, and what was lent behind it
 abbrev pub MachineFor : Opened → List ℕ → List ℕ → List ℕ → List ℕ → Answer → Type 0
-MachineFor o work left old new r = (x : Made) × MadeFrom o work left old new x × (r ≡ made_as x)
+MachineFor o work left old new r = (x : Result Size Refusal) × MadeFrom o work left old new x × (r ≡ made_as x)
 
 -- the keys by their numbers; any other is refused by 9, whatever the sheets are
 unfoldable pub setting_for : ℕ → List ℕ → List ℕ → Answer

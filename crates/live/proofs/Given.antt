@@ -1,4 +1,5 @@
 -- What the checks give the code behind them, and what the answers are.
+use Rattle.std.specs.Prelude.{Ok, Err}
 use Prim.Native.Nat.{ℕ, ◌≤◌}
 use mathlib.Core.Path.{◌≡◌, sym, ap, ◌∙◌}
 use mathlib.Core.List.{List}
@@ -8,8 +9,7 @@ use Rattle.meaning.specs.Run as run
 use Rattle.pairs.specs.declared.Pairs.{Pairs}
 use Rattle.model.specs.LiveSet.{live_set}
 use Rattle.answers.specs.declared.Refusal.{Refusal}
-use Rattle.answers.specs.declared.Outcome.{Outcome}
-use Rattle.answers.specs.declared.Outcome.TheVariants.{Accepted, Refused}
+use Rattle.answers.specs.Results.{Outcome}
 use Rattle.plant.specs.declared.Plant.{Plant}
 use Rattle.plant.specs.Table.{plant_of}
 use Rattle.syntax.specs.declared.Rule.{Rule}
@@ -49,12 +49,12 @@ module _ (p : Plant) (fair label next : List ℕ) (rule : Rule) where
 
   -- ---- the answers
 
-  pub refused : {o : Outcome} {r : Refusal} {none : Pairs} → o ≡ input_outcome p fair label next rule → o ≡ Refused r → none.words ≡ replicate 64 0
-      → answer (Refused r) none.words ≡ prepared_of p fair label next rule
+  pub refused : {o : Outcome} {r : Refusal} {none : Pairs} → o ≡ input_outcome p fair label next rule → o ≡ Err r → none.words ≡ replicate 64 0
+      → answer (Err r) none.words ≡ prepared_of p fair label next rule
   unfolding prepared_of
-  refused {r} e f empty = ap (answer (Refused r)) empty ∙ ap (λ (o : Outcome). prepared_as o (live_set table formula)) (sym f ∙ e)
+  refused {r} e f empty = ap (answer (Err r)) empty ∙ ap (λ (o : Outcome). prepared_as o (live_set table formula)) (sym f ∙ e)
 
-  module _ (full : length rule.nodes ≡ 32) {o : Outcome} (e : o ≡ input_outcome p fair label next rule) (f : o ≡ Accepted) where
-    pub prepared : {live : Pairs} → live.words ≡ live_of p.states fair label next rule → answer Accepted live.words ≡ prepared_of p fair label next rule
+  module _ (full : length rule.nodes ≡ 32) {o : Outcome} (e : o ≡ input_outcome p fair label next rule) (f : o ≡ Ok tt) where
+    pub prepared : {live : Pairs} → live.words ≡ live_of p.states fair label next rule → answer (Ok tt) live.words ≡ prepared_of p fair label next rule
     unfolding prepared_of
-    prepared is = ap (answer Accepted) (is ∙ live_set_is (accepted p fair label next rule full e f)) ∙ ap (λ (o : Outcome). prepared_as o (live_set table formula)) (sym f ∙ e)
+    prepared is = ap (answer (Ok tt)) (is ∙ live_set_is (accepted p fair label next rule full e f)) ∙ ap (λ (o : Outcome). prepared_as o (live_set table formula)) (sym f ∙ e)

@@ -1,9 +1,8 @@
 -- What `prepare` answers: the checks (01, Refusal numbers), and behind them the live set of the table and the rule.
-use Rattle.std.specs.Prelude.{ℕ, List, replicate}
+use Rattle.std.specs.Prelude.{ℕ, List, replicate, Ok, Err}
 use Rattle.model.specs.LiveSet.{live_set}
 use Rattle.sweeps.specs.Rounds.{lasting_of}
-use Rattle.answers.specs.declared.Outcome.{Outcome}
-use Rattle.answers.specs.declared.Outcome.TheVariants.{Accepted, Refused}
+use Rattle.answers.specs.Results.{Outcome}
 use Rattle.plant.specs.declared.Plant.{Plant}
 use Rattle.plant.specs.Table.{plant_of}
 use Rattle.syntax.specs.declared.Rule.{Rule}
@@ -15,8 +14,8 @@ use Rattle.live.specs.declared.Prepared.{Prepared}
 
 -- with a refusal the empty set
 abbrev pub prepared_as : Outcome → List ℕ → Prepared
-prepared_as Accepted live = record { outcome = Accepted; live = record { words = live } }
-prepared_as (Refused r) live = record { outcome = Refused r; live = record { words = replicate 64 0 } }
+prepared_as (Ok _) live = record { outcome = Ok tt; live = record { words = live } }
+prepared_as (Err r) live = record { outcome = Err r; live = record { words = replicate 64 0 } }
 
 unfoldable pub prepared_of : Plant → List ℕ → List ℕ → List ℕ → Rule → Prepared
 prepared_of p fair label next rule = prepared_as (input_outcome p fair label next rule) (live_set (plant_of p fair label next) (formula_of rule))

@@ -1,6 +1,6 @@
 -- What is promised of `prepare`: it accepts exactly what the shared checks accept, and then finds exactly the live pairs.
 use mathlib.Core.Logic.Iff
-use Rattle.std.specs.Prelude.{ℕ, ◌≡◌, ◌↔◌, length, replicate}
+use Rattle.std.specs.Prelude.{ℕ, ◌≡◌, ◌↔◌, length, replicate, Ok, Err}
 use Rattle.std.proofs.Math.Path.{refl}
 use Rattle.std.proofs.Common.{sym, ◌∙◌}
 use mathlib.Core.List.{List}
@@ -10,8 +10,7 @@ use Rattle.pairs.specs.Sets.{inside}
 use Rattle.model.specs.LiveSet.{live_set}
 use Rattle.model.proofs.Lives.{live_says}
 use Rattle.answers.specs.declared.Refusal.{Refusal}
-use Rattle.answers.specs.declared.Outcome.{Outcome}
-use Rattle.answers.specs.declared.Outcome.TheVariants.{Accepted, Refused}
+use Rattle.answers.specs.Results.{Outcome}
 use Rattle.plant.specs.declared.Plant.{Plant}
 use Rattle.plant.specs.Table.{plant_of}
 use Rattle.syntax.specs.declared.Rule.{Rule}
@@ -27,17 +26,17 @@ module _ (p : Plant) (fair label next : List ℕ) (rule : Rule) where
   prepare_outcome = go (input_outcome p fair label next rule) (live_set (plant_of p fair label next) (formula_of rule))
     where
       go : (o : Outcome) (words : List ℕ) → (prepared_as o words).outcome ≡ o
-      go Accepted words = refl
-      go (Refused r) words = refl
+      go (Ok _) words = refl
+      go (Err r) words = refl
 
   -- a refusal comes with the empty set
-  pub prepare_refused : (r : Refusal) → input_outcome p fair label next rule ≡ Refused r → (prepared_of p fair label next rule).live.words ≡ replicate 64 0
+  pub prepare_refused : (r : Refusal) → input_outcome p fair label next rule ≡ Err r → (prepared_of p fair label next rule).live.words ≡ replicate 64 0
   unfolding prepared_of
   prepare_refused r e = rw e
 
   -- the array of a rule has 32 nodes
   module _ (full : length rule.nodes ≡ 32) where
-    pub prepare_accepted : ((prepared_of p fair label next rule).outcome ≡ Accepted) ↔ Input p fair label next rule
+    pub prepare_accepted : ((prepared_of p fair label next rule).outcome ≡ Ok tt) ↔ Input p fair label next rule
     prepare_accepted = Iff.trans (λ e. sym prepare_outcome ∙ e, λ e. prepare_outcome ∙ e) (input_accepted p fair label next rule full)
 
     -- and then it holds the live pairs, and no others

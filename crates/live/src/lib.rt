@@ -5,7 +5,7 @@ ghost use Rattle.std.specs.Prelude.{◌≡◌, ◌≤◌, length};
 ghost use Rattle.truth.specs.Ready.{Ready};
 ghost use Rattle.live.specs.Prepare.{live_of, prepared_of};
 
-use answers::Outcome;
+use answers::Refusal;
 use pairs::Pairs;
 use plant::Plant;
 use sweeps::rounds::lasting;
@@ -15,7 +15,7 @@ use ways::ways_of;
 // A refusal comes with the empty set.
 #[derive(Clone, Copy)]
 pub struct Prepared {
-    pub outcome: Outcome,
+    pub outcome: Result<(), Refusal>,
     pub live: Pairs,
 }
 
@@ -42,12 +42,12 @@ pub fn prepare(plant: Plant, fair: &[u64], label: &[u16], next: &[u64], rule: Ru
 {
     let outcome = checks::check_input(plant, fair, label, next, rule);
     match outcome {
-        Outcome::Refused(refusal) => Prepared {
-            outcome: Outcome::Refused(refusal),
+        Err(refusal) => Prepared {
+            outcome: Err(refusal),
             live: Pairs::empty(),
         },
-        Outcome::Accepted => Prepared {
-            outcome: Outcome::Accepted,
+        Ok(()) => Prepared {
+            outcome: Ok(()),
             live: live_pairs(plant.states, fair, label, next, rule),
         },
     }

@@ -1,4 +1,5 @@
 -- What `make_machine` made stands in the bytes that it was lent, in rows of at most 56.
+use Rattle.std.specs.Prelude.{Result, Ok, Err}
 use Prim.Native.Nat.{ℕ, zero, suc, ◌+◌, ◌*◌, ◌≤◌}
 use mathlib.Core.Path.{◌≡◌, refl, sym, ap, ◌∙◌}
 use mathlib.Core.Bool.{Bool, true, false}
@@ -8,8 +9,7 @@ use borrow.Author.Tests.{leb-true}
 use lib.Dec.{leb}
 use lib.ListN.{length}
 use Rattle.answers.specs.declared.Kind.TheVariants.{Counts, Room}
-use Rattle.answers.specs.declared.Outcome.{Outcome}
-use Rattle.answers.specs.declared.Outcome.TheVariants.{Accepted, Refused}
+use Rattle.answers.specs.Results.{Outcome}
 use Rattle.answers.specs.Chain.{and_then, unless, chain_accepts, unless_accepts}
 use Rattle.plant.specs.declared.Plant.{Plant}
 use Rattle.plant.specs.Table.{plant_of}
@@ -20,24 +20,23 @@ use Rattle.checks.specs.Checks.{input_outcome}
 use Rattle.columns.specs.Columns.{columns_of, few_columns}
 use Rattle.columns.proofs.Columns.{columns_count}
 use Rattle.machines.specs.Machine.{Machine}
-use Rattle.fixed_machine.specs.declared.Made.{Made}
-use Rattle.fixed_machine.specs.declared.Made.TheVariants as Mades
+use Rattle.answers.specs.declared.Refusal.{Refusal}
 use Rattle.fixed_machine.specs.declared.Size.{Size}
 use Rattle.fixed_machine.specs.Worked.{LaidBy, over, made}
 use Rattle.fixed_machine.specs.Machined.{WorkedFor, MachinedAs, machine_outcome, Machined}
 
 -- what stands in an answer: nothing in a refusal
-abbrev rows_in : Made → ℕ
-rows_in (Mades.Rows s) = s.rows
-rows_in (Mades.Refused x) = 0
+abbrev rows_in : Result Size Refusal → ℕ
+rows_in (Ok s) = s.rows
+rows_in (Err x) = 0
 
-abbrev bytes_in : Made → ℕ
-bytes_in (Mades.Rows s) = s.bytes
-bytes_in (Mades.Refused x) = 0
+abbrev bytes_in : Result Size Refusal → ℕ
+bytes_in (Ok s) = s.bytes
+bytes_in (Err x) = 0
 
-abbrev is_made : Made → ℕ
-is_made (Mades.Rows s) = 1
-is_made (Mades.Refused x) = 0
+abbrev is_made : Result Size Refusal → ℕ
+is_made (Ok s) = 1
+is_made (Err x) = 0
 
 -- three propositions have at most 54 columns
 few_in : (props : ℕ) → props ≤ 3 → length (columns_of props) ≤ 54
@@ -45,7 +44,7 @@ unfolding columns_of legal_of
 few_in zero few = let two : length (columns_of 0) ≡ 2 = refl in omega (arith, two)
 few_in (suc n) few = omega (arith, columns_count (suc n) (omega arith) few, few_columns (suc n))
 
-module _ (p : Plant) (fair label next : List ℕ) (rule : Rule) (work left old new : List ℕ) (r : Made) (s : Size) (is : r ≡ Mades.Rows s) where
+module _ (p : Plant) (fair label next : List ℕ) (rule : Rule) (work left old new : List ℕ) (r : Result Size Refusal) (s : Size) (is : r ≡ Ok s) where
   abbrev c : ℕ
   c = length (columns_of p.props)
 
@@ -66,7 +65,7 @@ module _ (p : Plant) (fair label next : List ℕ) (rule : Rule) (work left old n
   worked_fits few (over many e same) = none (ap is_made e)
   worked_fits few (made m most is_made laid) = laid_fits few m (leb (m.rows * (c + 2)) (length old)) refl laid
 
-  accepted_few : machine_outcome p fair label next rule (length work) ≡ Accepted → p.props ≤ 3
+  accepted_few : machine_outcome p fair label next rule (length work) ≡ Ok tt → p.props ≤ 3
   unfolding machine_outcome
   accepted_few e =
       leb-true p.props 3 ((unless_accepts (leb p.props 3) Counts).0
@@ -75,9 +74,9 @@ module _ (p : Plant) (fair label next : List ℕ) (rule : Rule) (work left old n
   pub made_fits : Machined p fair label next rule work left old new r → Fits
   made_fits = go (machine_outcome p fair label next rule (length work)) accepted_few
     where
-      go : (o : Outcome) → (o ≡ Accepted → p.props ≤ 3) → MachinedAs (plant_of p fair label next) (formula_of rule) o work left old new r → Fits
-      go (Refused x) few (e, _, _) = none (ap is_made e)
-      go Accepted few (_, w) = worked_fits (few refl) w
+      go : (o : Outcome) → (o ≡ Ok tt → p.props ≤ 3) → MachinedAs (plant_of p fair label next) (formula_of rule) o work left old new r → Fits
+      go (Err x) few (e, _, _) = none (ap is_made e)
+      go (Ok _) few (_, w) = worked_fits (few refl) w
 
   -- also in what is there after it, which is as long
   pub made_within : length new ≡ length old → Machined p fair label next rule work left old new r → (s.rows * s.bytes ≤ length new) × (2 ≤ s.bytes) × (s.bytes ≤ 56)

@@ -6,8 +6,8 @@ mod rows;
 
 ghost use Rattle.opened.specs.Lent.{Lent};
 
-use answers::{Outcome, Refusal};
-use fixed_machine::{Made, Size, make_machine};
+use answers::Refusal;
+use fixed_machine::{Size, make_machine};
 use plant::{Plant, Table, TableRead};
 use program::given::{read_plant, read_rule};
 use program::said::refuse;
@@ -29,8 +29,8 @@ fn main(rt: HostRuntime) {
 fn run_in<R: Files + Print>(rt: &R, folder: &[u8]) {
     let read = read_plant(rt, folder);
     match read.outcome {
-        Outcome::Refused(refusal) => refuse(rt, refusal),
-        Outcome::Accepted => with_table(rt, folder, read.table),
+        Err(refusal) => refuse(rt, refusal),
+        Ok(()) => with_table(rt, folder, read.table),
     }
 }
 
@@ -59,8 +59,8 @@ fn with_parts<R: Files + Print>(
 ) {
     let read = read_rule(rt, folder, plant, fair, label, next);
     match read.outcome {
-        Outcome::Refused(refusal) => refuse(rt, refusal),
-        Outcome::Accepted => with_rule(rt, plant, fair, label, next, read.rule),
+        Err(refusal) => refuse(rt, refusal),
+        Ok(()) => with_rule(rt, plant, fair, label, next, read.rule),
     }
 }
 
@@ -77,7 +77,7 @@ fn with_rule<P: Print>(
     let mut machine = [0u8; BYTES];
     let made = make_machine(plant, fair, label, next, rule, &mut work, &mut machine);
     match made {
-        Made::Refused(refusal) => refuse(to, refusal),
-        Made::Rows(size) => rows::show_machine(to, &machine, size),
+        Err(refusal) => refuse(to, refusal),
+        Ok(size) => rows::show_machine(to, &machine, size),
     }
 }

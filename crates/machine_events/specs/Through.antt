@@ -1,15 +1,14 @@
 -- WHAT EVENTS IN A MACHINE SHOW, looked up one after another from a row on, up to the first that is refused. What must be believed is here, with machine_lookup/specs/Lookup.
-use Rattle.std.specs.Prelude.{ℕ, zero, suc, ◌+◌, ◌/◌, ◌%◌, ◌≡◌, ◌&&◌, cond, List, [], ◌∷◌, ◌++◌, eqb, leb, length, get_or}
+use Rattle.std.specs.Prelude.{ℕ, zero, suc, ◌+◌, ◌/◌, ◌%◌, ◌≡◌, ◌&&◌, cond, List, [], ◌∷◌, ◌++◌, eqb, leb, length, get_or, Result, Ok, Err}
 use Rattle.words.specs.Over.{over}
 use Rattle.answers.specs.declared.Kind.{Kind}
 use Rattle.answers.specs.declared.Kind.TheVariants.{Counts, Value, Room}
-use Rattle.answers.specs.declared.Outcome.{Outcome}
-use Rattle.answers.specs.declared.Outcome.TheVariants.{Accepted, Refused}
+use Rattle.answers.specs.Results.{Outcome}
 use Rattle.answers.specs.Paper.{refused_at}
 use Rattle.event_log.specs.declared.Event.{Event}
 use Rattle.columns.specs.Columns.{event, count_of}
-use Rattle.machine_lookup.specs.declared.Looked.{Looked}
-use Rattle.machine_lookup.specs.declared.Looked.TheVariants as Lookeds
+use Rattle.machine_lookup.specs.declared.Stand.{Stand}
+use Rattle.answers.specs.declared.Refusal.{Refusal}
 use Rattle.machine_lookup.specs.Lookup.{holds_row, looked_up}
 use Rattle.machine_events.specs.declared.Through.{Through}
 
@@ -24,21 +23,21 @@ pub record Shown : Type 0 where
 
 -- so many events behind which a row stands, and what they showed
 abbrev pub standing : ℕ → ℕ → List ℕ → Shown
-standing n row bytes = record { through = record { outcome = Accepted; done = n; row = row }; shown = bytes }
+standing n row bytes = record { through = record { outcome = Ok tt; done = n; row = row }; shown = bytes }
 
 -- nothing is looked up
 abbrev pub stopped : ℕ → Kind → Shown
-stopped row k = record { through = record { outcome = Refused (refused_at k 0); done = 0; row = row }; shown = [] }
+stopped row k = record { through = record { outcome = Err (refused_at k 0); done = 0; row = row }; shown = [] }
 
 -- one event more is found, or refused
-abbrev pub found : Shown → Looked → Shown
-found s (Lookeds.Row x) = standing (suc s.through.done) x.row (s.shown ++ x.verdict ∷ x.left ∷ [])
-found s (Lookeds.Refused r) = record { through = record { outcome = Refused r; done = s.through.done; row = s.through.row }; shown = s.shown }
+abbrev pub found : Shown → Result Stand Refusal → Shown
+found s (Ok x) = standing (suc s.through.done) x.row (s.shown ++ x.verdict ∷ x.left ∷ [])
+found s (Err r) = record { through = record { outcome = Err r; done = s.through.done; row = s.through.row }; shown = s.shown }
 
 -- behind a refusal nothing more happens
-abbrev pub go_on : Shown → (ℕ → Looked) → Outcome → Shown
-go_on s look Accepted = found s (look s.through.row)
-go_on s look (Refused r) = s
+abbrev pub go_on : Shown → (ℕ → Result Stand Refusal) → Outcome → Shown
+go_on s look (Ok _) = found s (look s.through.row)
+go_on s look (Err r) = s
 
 module _ (machine : List ℕ) (props row : ℕ) (events : List ℕ) where
   -- the first n events, each from the row where the last one led

@@ -2,19 +2,16 @@
 use Prim.Native.Nat.{ℕ, zero, suc, ◌+◌, ◌-◌, ◌*◌, ◌/◌, ◌≤◌, ◌<◌}
 use Rattle.std.proofs.Common.{add-one, arith, sym, ◌∙◌, append_assoc, length-append, length-drop}
 use Rattle.std.proofs.Math.Nat.{zero-add, suc-add}
-use Rattle.std.specs.Prelude.{◌≡◌, Bool, ◌&&◌, List, [], ◌∷◌, ◌++◌, leb, length, get_or, set}
+use Rattle.std.specs.Prelude.{◌≡◌, Bool, ◌&&◌, List, [], ◌∷◌, ◌++◌, leb, length, get_or, set, Result, Ok, Err}
 use Rattle.std.proofs.Math.Path.{refl, ap}
 use Rattle.std.proofs.Math.Bool.{true, false}
 use borrow.Author.Tests.{le-leb, lt-leb, le-ltb, lt-ltb}
 use Rattle.words.specs.Over.{over, over_set}
 use Rattle.answers.specs.declared.Kind.TheVariants.{Counts, Value, Room}
 use Rattle.answers.specs.declared.Refusal.{Refusal}
-use Rattle.answers.specs.declared.Outcome.TheVariants.{Accepted, Refused}
 use Rattle.columns.specs.Columns.{count_of}
 use Rattle.event_log.specs.declared.Event.{Event}
 use Rattle.machine_lookup.specs.declared.Stand.{Stand}
-use Rattle.machine_lookup.specs.declared.Looked.{Looked}
-use Rattle.machine_lookup.specs.declared.Looked.TheVariants as Lookeds
 use Rattle.machine_lookup.specs.Lookup.{looked_up}
 use Rattle.machine_lookup.specs.Shape.{rows_of, rows_hold, Shaped}
 use Rattle.machine_events.specs.declared.Through.{Through}
@@ -25,7 +22,7 @@ abbrev pub Wide : ℕ → ℕ → ℕ → ℕ → Type 0
 Wide bytes props width rows = Shaped bytes props (record { width = width; rows = rows })
 
 -- what was found of a byte's event
-pub found_of : (machine : List ℕ) (props : ℕ) (events : List ℕ) (n at : ℕ) {e : Event} {x y : Looked} → e ≡ event_in (get_or events n 0) → x ≡ looked_up machine props at e → x ≡ y
+pub found_of : (machine : List ℕ) (props : ℕ) (events : List ℕ) (n at : ℕ) {e : Event} {x y : Result Stand Refusal} → e ≡ event_in (get_or events n 0) → x ≡ looked_up machine props at e → x ≡ y
     → looked_up machine props at (event_in (get_or events n 0)) ≡ y
 found_of machine props events n at line is known = rw (← line) (sym is ∙ known)
 
@@ -33,11 +30,11 @@ module _ (machine : List ℕ) (props row : ℕ) (events old : List ℕ) where
   abbrev to : ℕ → Shown
   to n = through_to machine props row events n
 
-  abbrev look : ℕ → ℕ → Looked
+  abbrev look : ℕ → ℕ → Result Stand Refusal
   look n at = looked_up machine props at (event_in (get_or events n 0))
 
   -- behind a refusal nothing more happens
-  stays : (n k : ℕ) {r : Refusal} → (to n).through.outcome ≡ Refused r → to (k + n) ≡ to n
+  stays : (n k : ℕ) {r : Refusal} → (to n).through.outcome ≡ Err r → to (k + n) ≡ to n
   unfolding through_to
   stays n zero e = rw zero-add refl
   stays n (suc k) e = rw suc-add (ap (λ (s : Shown). go_on s (λ at. look (k + n) at) s.through.outcome) (stays n k e) ∙ ap (go_on (to n) (λ at. look (k + n) at)) e)
@@ -61,14 +58,14 @@ module _ (machine : List ℕ) (props row : ℕ) (events old : List ℕ) where
 
   module _ {n at : ℕ} {new : List ℕ} (g : Gone n at new) where
     -- the next event, by what is found
-    on : (x : Looked) → look n at ≡ x → to (suc n) ≡ found (standing n at g.so_far) x
+    on : (x : Result Stand Refusal) → look n at ≡ x → to (suc n) ≡ found (standing n at g.so_far) x
     unfolding through_to
     on x e = rw g.is (ap (found (standing n at g.so_far)) e)
 
-    pub goes_on : {s : Stand} {mid last : List ℕ} → look n at ≡ Lookeds.Row s → n * 2 + 1 < length old → mid ≡ set new (n * 2) s.verdict → last ≡ set mid (n * 2 + 1) s.left → Gone (n + 1) s.row last
+    pub goes_on : {s : Stand} {mid last : List ℕ} → look n at ≡ Ok s → n * 2 + 1 < length old → mid ≡ set new (n * 2) s.verdict → last ≡ set mid (n * 2 + 1) s.left → Gone (n + 1) s.row last
     goes_on {s} {mid} {last} e room first second = record {
       so_far = g.so_far ++ s.verdict ∷ s.left ∷ [];
-      is = rw add-one (on (Lookeds.Row s) e);
+      is = rw add-one (on (Ok s) e);
       many = omega (arith, length-append g.so_far (s.verdict ∷ s.left ∷ []), g.many);
       bytes = second ∙ ap (λ (m : List ℕ). set m (n * 2 + 1) s.left) one ∙ two ∙ ap (λ (l : List ℕ). over l old) (append_assoc g.so_far (s.verdict ∷ []) (s.left ∷ []));
     }
@@ -83,16 +80,16 @@ module _ (machine : List ℕ) (props row : ℕ) (events old : List ℕ) where
         two = rw (← longer) (over_set (g.so_far ++ s.verdict ∷ []) old s.left (omega (arith, longer)))
 
     -- a refused event ends them where they stand
-    pub stops : (last : ℕ) {r : Refusal} → look n at ≡ Lookeds.Refused r → n < last → Says (to last) old new (record { outcome = Refused r; done = n; row = at })
+    pub stops : (last : ℕ) {r : Refusal} → look n at ≡ Err r → n < last → Says (to last) old new (record { outcome = Err r; done = n; row = at })
     stops last {r} e before =
-        let stopped = on (Lookeds.Refused r) e in
+        let stopped = on (Err r) e in
         let same : to last ≡ to (suc n) = rw (rest) (stays (suc n) (last - suc n) (ap (λ (s : Shown). s.through.outcome) stopped)) in
         rw (same ∙ stopped) (record { answer = refl; bytes = g.bytes })
       where
         rest : last ≡ last - suc n + suc n
         rest = omega arith
 
-    pub ends : (last : ℕ) → n ≡ last → Says (to last) old new (record { outcome = Accepted; done = last; row = at })
+    pub ends : (last : ℕ) → n ≡ last → Says (to last) old new (record { outcome = Ok tt; done = last; row = at })
     ends last e = rw (← e, g.is) (record { answer = refl; bytes = g.bytes })
 
 -- ---- for code: the checks in their order

@@ -8,14 +8,14 @@ ghost use Rattle.machine_lookup.specs.Shape.{rows_of};
 ghost use Rattle.machine_events.specs.Through.{event_in, stopped, Says, through_to, through_of};
 ghost use Rattle.machine_events.specs.Turns.{Wide};
 
-use answers::{Kind, Outcome, Refusal};
+use answers::{Kind, Refusal};
 use event_log::{Event, Num};
-use machine_lookup::{Looked, first_of, stand_at};
+use machine_lookup::{Stand, first_of, stand_at};
 
 // Accepted where no event was refused, and else the refusal; how many were looked up; and the row behind them.
 #[derive(Clone, Copy)]
 pub struct Through {
-    pub outcome: Outcome,
+    pub outcome: Result<(), Refusal>,
     pub done: usize,
     pub row: usize,
 }
@@ -54,16 +54,16 @@ fn look_in(
     rows: usize,
     row: usize,
     event: Event,
-) -> Looked
+) -> Result<Stand, Refusal>
     requires { Wide (length machine.now) props width rows }
     ensures { result ≡ looked_up machine.now props row event }
 {
     if rows <= row {
-        return Looked::Refused(Refusal::at(Kind::Value, 0));
+        return Err(Refusal::at(Kind::Value, 0));
     }
     let first = first_of(event);
     if width <= first {
-        return Looked::Refused(Refusal::at(Kind::IllegalEvent, 0));
+        return Err(Refusal::at(Kind::IllegalEvent, 0));
     }
     let cell = row * width + first + event.new as usize;
     stand_at(machine, width, rows, machine[cell])
@@ -85,14 +85,14 @@ fn turns(
     let mut at = row;
     for (n, &byte) in events.iter().enumerate() {
         match look_in(machine, props, width, rows, at, event_of(byte)) {
-            Looked::Refused(refusal) => {
+            Err(refusal) => {
                 return Through {
-                    outcome: Outcome::Refused(refusal),
+                    outcome: Err(refusal),
                     done: n,
                     row: at,
                 };
             }
-            Looked::Row(stand) => {
+            Ok(stand) => {
                 at = stand.row;
                 shown[n * 2] = stand.verdict;
                 shown[n * 2 + 1] = stand.left;
@@ -100,7 +100,7 @@ fn turns(
         }
     }
     Through {
-        outcome: Outcome::Accepted,
+        outcome: Ok(()),
         done: events.len(),
         row: at,
     }
@@ -111,7 +111,7 @@ fn refused(kind: Kind, row: usize) -> Through
     ensures { result ≡ (stopped row kind).through }
 {
     Through {
-        outcome: Outcome::Refused(Refusal::at(kind, 0)),
+        outcome: Err(Refusal::at(kind, 0)),
         done: 0,
         row,
     }

@@ -16,12 +16,6 @@ pub struct Stand {
     pub left: u8,
 }
 
-#[derive(Clone, Copy)]
-pub enum Looked {
-    Row(Stand),
-    Refused(Refusal),
-}
-
 // How wide a row is, and how many there are.
 #[derive(Clone, Copy)]
 struct Shape {
@@ -96,38 +90,38 @@ pub fn first_of(event: Event) -> usize
 }
 
 // What the row that a cell holds shows, if it is one.
-pub fn stand_at(machine: &[u8], width: usize, rows: usize, cell: u8) -> Looked
+pub fn stand_at(machine: &[u8], width: usize, rows: usize, cell: u8) -> Result<Stand, Refusal>
     requires { (2 ≤ width) × (width ≤ 56) × (rows ≡ length machine.now / width) }
     ensures { result ≡ stand_at machine.now width cell }
 {
     let row = cell as usize;
     if rows <= row {
-        return Looked::Refused(Refusal::at(Kind::Value, 0));
+        return Err(Refusal::at(Kind::Value, 0));
     }
     let at = row * width;
     let verdict = machine[at];
     let left = machine[at + 1];
     if verdict <= 3 && left <= 64 {
-        Looked::Row(Stand { row, verdict, left })
+        Ok(Stand { row, verdict, left })
     } else {
-        Looked::Refused(Refusal::at(Kind::Value, 0))
+        Err(Refusal::at(Kind::Value, 0))
     }
 }
 
 // Checks 1 and 9, then 10, and 9 again for the row that the cell holds.
-pub fn look_up(machine: &[u8], props: usize, row: usize, event: Event) -> Looked
+pub fn look_up(machine: &[u8], props: usize, row: usize, event: Event) -> Result<Stand, Refusal>
     ensures { result ≡ looked_up machine.now props row event }
 {
     let Shape { width, rows } = shape_of(machine.len(), props);
     if width == 0 {
-        return Looked::Refused(Refusal::at(Kind::Counts, 0));
+        return Err(Refusal::at(Kind::Counts, 0));
     }
     if rows <= row {
-        return Looked::Refused(Refusal::at(Kind::Value, 0));
+        return Err(Refusal::at(Kind::Value, 0));
     }
     let first = first_of(event);
     if width <= first {
-        return Looked::Refused(Refusal::at(Kind::IllegalEvent, 0));
+        return Err(Refusal::at(Kind::IllegalEvent, 0));
     }
     let cell = row * width + first + event.new as usize;
     stand_at(machine, width, rows, machine[cell])

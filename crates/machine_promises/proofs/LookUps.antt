@@ -1,6 +1,6 @@
 -- More of specs/LookUps. LOOK-UPS AND STEPPING AGREE: the events of an accepted log, looked up one after another in the bytes that `make_machine` wrote, show what the monitor shows.
 use Prim.Native.Nat.{ℕ, zero, suc, ◌+◌, ◌≤◌}
-use Rattle.std.specs.Prelude.{◌≡◌, Bool, true, false, replicate}
+use Rattle.std.specs.Prelude.{◌≡◌, Bool, true, false, replicate, Ok}
 use Rattle.std.proofs.Math.Path.{refl, ap}
 use Rattle.std.proofs.Common.{arith}
 use Rattle.std.proofs.Math.Bool.{So}
@@ -16,7 +16,6 @@ use Rattle.event_numbers.specs.Numbers.{number_of, missing_of, unseen}
 use Rattle.watching.specs.Filled.{filled_from, filled}
 use Rattle.watching.specs.Watching.{after, AllTaken}
 use Rattle.machines.specs.Machine.{Machine}
-use Rattle.fixed_machine.specs.declared.Made.TheVariants as Mades
 use Rattle.fixed_machine.specs.declared.Size.{Size}
 use Rattle.fixed_machine.specs.Machined.{Machined}
 use Rattle.machine_promises.specs.Agrees.{AllLegal, taken_legal}
@@ -62,7 +61,7 @@ module _ (p : Plant) (fair label next : List ℕ) (rule : Rule) (given : Input p
       go gs behind zero = ap (λ (l : List meaning.Event). event_of e ∷ l) behind
       go gs behind (suc k) = ap (λ (l : List meaning.Event). unseen ∷ l) (go gs behind k)
 
-  module _ (work left old new : List ℕ) (size : Size) (answered : Machined p fair label next rule work left old new (Mades.Rows size)) where
+  module _ (work left old new : List ℕ) (size : Size) (answered : Machined p fair label next rule work left old new (Ok size)) where
     abbrev wrote : (m : Machine) × Stands m (bytes_of size new) × (m.rows ≡ size.rows)
     wrote = of_lookups.wrote p fair label next rule given work left old new size answered
 

@@ -1,6 +1,6 @@
 -- More of specs/Many. MANY EVENTS IN ONE CALL SHOW WHAT STEPPING SHOWS: of the bytes that `make_machine` wrote, `look_through` writes for each event what the box shows behind it.
 use Prim.Native.Nat.{ℕ, zero, suc, ◌+◌, ◌-◌, ◌/◌, ◌≤◌, ◌<◌}
-use Rattle.std.specs.Prelude.{◌≡◌, Bool, get_or}
+use Rattle.std.specs.Prelude.{◌≡◌, Bool, get_or, Result, Ok}
 use Rattle.std.proofs.Math.Path.{sym, ap, subst}
 use Rattle.std.proofs.Common.{◌∙◌}
 use Rattle.std.proofs.Math.Bool.{true, false}
@@ -10,8 +10,7 @@ use borrow.Author.Tests.{le-leb}
 use Rattle.std.proofs.Math.ListN.{length}
 use Rattle.words.specs.Below.{list_below}
 use Rattle.answers.specs.declared.Lamp.{Lamp}
-use Rattle.answers.specs.declared.Answer.{Answer}
-use Rattle.answers.specs.declared.Answer.TheVariants.{Shown}
+use Rattle.answers.specs.Results.{Answer}
 use Rattle.answers.specs.Paper as paper
 use Rattle.plant.specs.declared.Plant.{Plant}
 use Rattle.syntax.specs.declared.Rule.{Rule}
@@ -20,11 +19,10 @@ use Rattle.checks.specs.Input.{Input}
 use Rattle.watching.specs.Watching.{after, TakenFrom, AllTaken}
 use Rattle.columns.specs.Columns.{count_of}
 use Rattle.columns.proofs.Columns.{columns_count}
-use Rattle.fixed_machine.specs.declared.Made.TheVariants as Mades
 use Rattle.fixed_machine.specs.declared.Size.{Size}
 use Rattle.fixed_machine.specs.Machined.{Machined}
-use Rattle.machine_lookup.specs.declared.Looked.{Looked}
-use Rattle.machine_lookup.specs.declared.Looked.TheVariants as Lookeds
+use Rattle.machine_lookup.specs.declared.Stand.{Stand}
+use Rattle.answers.specs.declared.Refusal.{Refusal}
 use Rattle.machine_lookup.specs.Lookup.{stand_at, looked_up, holds_row}
 use Rattle.machine_events.specs.Through as through
 use Rattle.machine_events.specs.Through.{event_in, standing, found, go_on, through_to, through_of}
@@ -43,7 +41,7 @@ module _ (p : Plant) (fair label next : List ℕ) (rule : Rule) where
   abbrev EachShown : (events : List ℕ) (s : through.Shown) → Type 0
   EachShown = of_many.EachShown p fair label next rule
 
-  module _ (given : Input p fair label next rule) (work left old new : List ℕ) (size : Size) (answered : Machined p fair label next rule work left old new (Mades.Rows size)) (events : List ℕ) where
+  module _ (given : Input p fair label next rule) (work left old new : List ℕ) (size : Size) (answered : Machined p fair label next rule work left old new (Ok size)) (events : List ℕ) where
     abbrev es : ℕ → List Event
     es = of_many.es p fair label next rule given work left old new size answered events
 
@@ -59,11 +57,11 @@ module _ (p : Plant) (fair label next : List ℕ) (rule : Rule) where
     -- the next event, from the row behind those before it
     looked_next : (n : ℕ) (so_far : AllTaken p fair label next rule (es n)) (taken : AllTaken p fair label next rule (es (suc n)))
         → looked_up bytes p.props (agree n so_far).row (event_in (get_or events n 0))
-        ≡ Lookeds.Row (record { row = (agree (suc n) taken).row; verdict = paper.number_of (agree (suc n) taken).lamp.verdict; left = (agree (suc n) taken).lamp.left })
+        ≡ Ok (record { row = (agree (suc n) taken).row; verdict = paper.number_of (agree (suc n) taken).lamp.verdict; left = (agree (suc n) taken).lamp.left })
     unfolding look_on list_below
     looked_next n so_far taken =
         sym (foldl-append (look_on bytes p.props) (stand_at bytes (count_of p.props + 2) 0) (es n) (event_in (get_or events n 0) ∷ [])
-        ∙ ap (λ (x : Looked). look_on bytes p.props x (event_in (get_or events n 0))) (agree n so_far).finds)
+        ∙ ap (λ (x : Result Stand Refusal). look_on bytes p.props x (event_in (get_or events n 0))) (agree n so_far).finds)
         ∙ (agree (suc n) taken).finds
 
     shown_to : (n : ℕ) (taken : AllTaken p fair label next rule (es n)) → through_to bytes p.props 0 events n ≡ standing n (agree n taken).row (bytes_by lamp_at n)
@@ -93,5 +91,5 @@ module _ (p : Plant) (fair label next : List ℕ) (rule : Rule) where
         rest : (k : ℕ) → k < length events → length events ≡ suc k + (length events - suc k)
         rest k l = omega arith
 
-        behind : (k : ℕ) → AllTaken p fair label next rule (es (suc k)) → (after p fair label next rule (es (suc k))).answer ≡ Shown (lamp_at k)
-        behind k taken = let there = agree (suc k) taken in there.shows ∙ sym (ap (λ (a : Answer). Shown (lamp_of a)) there.shows)
+        behind : (k : ℕ) → AllTaken p fair label next rule (es (suc k)) → (after p fair label next rule (es (suc k))).answer ≡ Ok (lamp_at k)
+        behind k taken = let there = agree (suc k) taken in there.shows ∙ sym (ap (λ (a : Answer). Ok (lamp_of a)) there.shows)

@@ -1,5 +1,5 @@
 -- Words of columns and logs of events: a log of accepted events without gaps leads the monitor where its columns lead the machine.
-use Rattle.std.specs.Prelude.{ℕ, ◌≤◌, ◌≡◌, Bool, length, get_or}
+use Rattle.std.specs.Prelude.{ℕ, ◌≤◌, ◌≡◌, Bool, length, get_or, Ok}
 use Rattle.std.proofs.Math.Path.{refl, ap}
 use Rattle.std.proofs.Common.{sym, ◌∙◌}
 use Rattle.std.proofs.Math.Bool.{So}
@@ -11,8 +11,7 @@ use Rattle.model.specs.LiveSet.{live_set}
 use Rattle.model.specs.Checks.{legal_says}
 use Rattle.model.specs.Monitor as model
 use Rattle.answers.specs.declared.Lamp.{Lamp}
-use Rattle.answers.specs.declared.Answer.{Answer}
-use Rattle.answers.specs.declared.Answer.TheVariants.{Shown}
+use Rattle.answers.specs.Results.{Answer}
 use Rattle.plant.specs.declared.Plant.{Plant}
 use Rattle.plant.specs.Table.{plant_of}
 use Rattle.syntax.specs.declared.Rule.{Rule}
@@ -57,7 +56,7 @@ MadeFor T f m = machines.Made (length (columns_of T.props)) (step_at T f (live_s
 -- after the columns of a log its output is what the last call shows
 pub record AgreesOn (shown : Answer) (m : Machine) (es : List Event) : Type 0 where
   pub lamp : Lamp
-  pub shows : shown ≡ Shown lamp
+  pub shows : shown ≡ Ok lamp
   pub output : m.output (run m 0 (map column_for es)) ≡ lamp_number lamp
 
 module _ (p : Plant) (fair label next : List ℕ) (rule : Rule) (given : Input p fair label next rule) (few : p.props ≤ 3) where

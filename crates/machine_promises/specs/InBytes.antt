@@ -1,5 +1,5 @@
 -- A machine's rows in its bytes: what a row shows there, and where a look-up leads.
-use Rattle.std.specs.Prelude.{ℕ, suc, ◌+◌, ◌*◌, ◌/◌, ◌%◌, ◌≤◌, ◌<◌, ◌≡◌, true, List}
+use Rattle.std.specs.Prelude.{ℕ, suc, ◌+◌, ◌*◌, ◌/◌, ◌%◌, ◌≤◌, ◌<◌, ◌≡◌, true, List, Ok}
 use Rattle.std.proofs.Math.Path.{refl, sym, ap, ap₂}
 use Rattle.std.proofs.Common.{◌∙◌, add-zero}
 use Rattle.std.proofs.Math.Bool.{So}
@@ -13,7 +13,6 @@ use Rattle.columns.specs.Columns.{count_of}
 use Rattle.machines.specs.Machine.{Machine, Proper}
 use Rattle.machines.specs.Bytes.{row_byte, table_byte}
 use Rattle.machines.specs.Grown.{place_inside}
-use Rattle.machine_lookup.specs.declared.Looked.TheVariants as Lookeds
 use Rattle.machine_lookup.specs.Lookup.{holds_row, stand_at, looked_up, looked_there}
 use Rattle.machine_lookup.specs.Columns.{column_low}
 use Rattle.machine_promises.specs.Agrees.{column_for}
@@ -38,7 +37,7 @@ module _ {c : ℕ} {m : Machine} {bytes : List ℕ} (in_bytes : Bytes c m bytes)
   rows_in = ap (λ (k : ℕ). k / (c + 2)) (in_bytes.long ∙ sym (add-zero (m.rows * (c + 2)))) ∙ mul-add-div_right {m = c + 2} (omega arith) m.rows 0 ∙ rw (div-eq_of_lt {n = 0} {m = c + 2} (omega arith)) (add-zero m.rows)
 
   -- a row shows what its two bytes say
-  pub row_stands : (r v l : ℕ) → r < m.rows → m.output r ≡ v * 256 + l → v ≤ 3 → l ≤ 64 → stand_at bytes (c + 2) r ≡ Lookeds.Row (record { row = r; verdict = v; left = l })
+  pub row_stands : (r v l : ℕ) → r < m.rows → m.output r ≡ v * 256 + l → v ≤ 3 → l ≤ 64 → stand_at bytes (c + 2) r ≡ Ok (record { row = r; verdict = v; left = l })
   unfolding stand_at row_byte
   row_stands r v l h e few low =
       let first : get_or bytes (r * (c + 2)) 0 ≡ v = ap (λ (k : ℕ). get_or bytes k 0) (sym (add-zero (r * (c + 2)))) ∙ byte_of r 0 h (omega arith) ∙ ap (λ (x : ℕ). x / 256 % 256) e ∙ omega arith in

@@ -1,7 +1,7 @@
 -- LOOK-UPS AND STEPPING AGREE: the events of an accepted log, looked up one after another in the bytes that `make_machine` wrote, show what the monitor shows
 -- (`look_ups_agree`, in proofs/LookUps). What must be believed of look-ups is `looked_through` and `lost_put_in`, with machine_lookup/specs/Lookup.
 use Prim.Native.Nat.{ℕ, ◌+◌, ◌*◌, ◌≤◌, ◌<◌}
-use Rattle.std.specs.Prelude.{◌≡◌, Bool, true, false, leb, length, get_or, take, replicate}
+use Rattle.std.specs.Prelude.{◌≡◌, Bool, true, false, leb, length, get_or, take, replicate, Result, Ok, Err}
 use Rattle.std.proofs.Math.Path.{refl, ap}
 use Rattle.std.proofs.Common.{sym, subst, ◌∙◌, arith, leb-true, get_or-take, length-take-le}
 use Rattle.std.proofs.Math.Bool.{So}
@@ -14,10 +14,8 @@ use Rattle.model.specs.Monitor as model
 use Rattle.answers.specs.declared.Verdict.{Verdict}
 use Rattle.answers.specs.declared.Verdict.TheVariants.{Inconclusive, True, False, OutOfModel}
 use Rattle.answers.specs.declared.Lamp.{Lamp}
-use Rattle.answers.specs.declared.Answer.{Answer}
-use Rattle.answers.specs.declared.Answer.TheVariants.{Shown}
-use Rattle.answers.specs.declared.Outcome.{Outcome}
-use Rattle.answers.specs.declared.Outcome.TheVariants as Outcomes
+use Rattle.answers.specs.Results.{Answer}
+use Rattle.answers.specs.Results.{Outcome}
 use Rattle.answers.specs.Paper as paper
 use Rattle.answers.specs.Chain.{refused_none}
 use Rattle.plant.specs.declared.Plant.{Plant}
@@ -43,14 +41,11 @@ use Rattle.machines.specs.Explored.{MoreThan}
 use Rattle.machines.specs.Follow.{stepped}
 use Rattle.joined.specs.Written.{written_at, written_length}
 use Rattle.explored.specs.States.{few_left}
-use Rattle.fixed_machine.specs.declared.Made.{Made}
-use Rattle.fixed_machine.specs.declared.Made.TheVariants as Mades
+use Rattle.answers.specs.declared.Refusal.{Refusal}
 use Rattle.fixed_machine.specs.declared.Size.{Size}
 use Rattle.fixed_machine.specs.Worked.{LaidBy, over, made}
 use Rattle.fixed_machine.specs.Machined.{step_at, shown_in, MachinedAs, machine_outcome, Machined, outcome_many}
 use Rattle.machine_lookup.specs.declared.Stand.{Stand}
-use Rattle.machine_lookup.specs.declared.Looked.{Looked}
-use Rattle.machine_lookup.specs.declared.Looked.TheVariants as Lookeds
 use Rattle.machine_lookup.specs.Lookup.{stand_at, looked_up}
 use Rattle.machine_lookup.specs.Columns.{column_low}
 use Rattle.machine_promises.specs.Agrees.{column_for, WithoutGaps, AllLegal, MadeFor, taken_legal, columns_in, leads_there}
@@ -60,12 +55,12 @@ use Rattle.machine_promises.specs.InBytes.{Bytes, row_stands, look_leads}
 -- ---- what is believed
 
 -- a look-up from the row where the last one led; a refusal stays
-unfoldable pub look_on : List ℕ → ℕ → Looked → Event → Looked
-look_on bytes props (Lookeds.Row s) e = looked_up bytes props s.row e
-look_on bytes props (Lookeds.Refused x) e = Lookeds.Refused x
+unfoldable pub look_on : List ℕ → ℕ → Result Stand Refusal → Event → Result Stand Refusal
+look_on bytes props (Ok s) e = looked_up bytes props s.row e
+look_on bytes props (Err x) e = Err x
 
 -- events looked up one after another, from row 0 on
-abbrev pub looked_through : List ℕ → ℕ → List Event → Looked
+abbrev pub looked_through : List ℕ → ℕ → List Event → Result Stand Refusal
 looked_through bytes props es = foldl (look_on bytes props) (stand_at bytes (count_of props + 2) 0) es
 
 -- a log, with an event that sees nothing put in for each number that is missing
@@ -81,11 +76,11 @@ abbrev pub bytes_of : Size → List ℕ → List ℕ
 bytes_of size buffer = take (size.rows * size.bytes) buffer
 
 -- a look-up is not refused, and shows the verdict's number and `left` of the lamp that a call shows
-pub record ShowsAs (shown : Answer) (looked : Looked) : Type 0 where
+pub record ShowsAs (shown : Answer) (looked : Result Stand Refusal) : Type 0 where
   pub lamp : Lamp
   pub row : ℕ
-  pub shows : shown ≡ Shown lamp
-  pub finds : looked ≡ Lookeds.Row (record { row = row; verdict = paper.number_of lamp.verdict; left = lamp.left })
+  pub shows : shown ≡ Ok lamp
+  pub finds : looked ≡ Ok (record { row = row; verdict = paper.number_of lamp.verdict; left = lamp.left })
 
 -- ---- events looked up one after another
 
@@ -116,16 +111,16 @@ module _ (p : Plant) (fair label next : List ℕ) (rule : Rule) (given : Input p
   module _ {m : Machine} {bytes : List ℕ} (stands : Stands m bytes) where
     -- after a word its row shows what the monitor shows
     word_shows : (w : List ℕ) → Columns c w → (s : model.Monitor) → stepped (step_at T f (live_set T f)) (model.opening T f (live_set T f)) w ≡ s
-        → stand_at bytes (c + 2) (run m 0 w) ≡ Lookeds.Row (record { row = run m 0 w; verdict = paper.number_of (lamp_in s).verdict; left = (lamp_in s).left })
+        → stand_at bytes (c + 2) (run m 0 w) ≡ Ok (record { row = run m 0 w; verdict = paper.number_of (lamp_in s).verdict; left = (lamp_in s).left })
     word_shows w h s e =
         row_stands stands.in_bytes (run m 0 w) (paper.number_of (lamp_in s).verdict) (lamp_in s).left
         (run_inside stands.of.canonical.proper h 0 stands.of.canonical.proper.opening) (stands.of.agrees w h ∙ ap shown_in e) (verdict_low (lamp_in s).verdict) (few_left s)
 
     -- so every row shows a lamp
-    row_shows : (r : ℕ) → r < m.rows → (v : ℕ) × (l : ℕ) × (stand_at bytes (c + 2) r ≡ Lookeds.Row (record { row = r; verdict = v; left = l }))
+    row_shows : (r : ℕ) → r < m.rows → (v : ℕ) × (l : ℕ) × (stand_at bytes (c + 2) r ≡ Ok (record { row = r; verdict = v; left = l }))
     row_shows r l =
         let (w, h, e) = numbered_reached stands.of.canonical.numbered r l in
-        subst (λ (r : ℕ). (v : ℕ) × (l : ℕ) × (stand_at bytes (c + 2) r ≡ Lookeds.Row (record { row = r; verdict = v; left = l }))) e (_, _, word_shows w h _ refl)
+        subst (λ (r : ℕ). (v : ℕ) × (l : ℕ) × (stand_at bytes (c + 2) r ≡ Ok (record { row = r; verdict = v; left = l }))) e (_, _, word_shows w h _ refl)
 
     -- a look-up leads where the column leads the machine
     module _ (r : ℕ) (l : r < m.rows) (e : Event) (ok : So (legal_of e p.props)) where
@@ -139,7 +134,7 @@ module _ (p : Plant) (fair label next : List ℕ) (rule : Rule) (given : Input p
       inside : m.next r (column_for e) < m.rows
       inside = stands.of.canonical.proper.inside r (column_for e) l (rw count (column_low p.props given.table.some_props stands.three e ok))
 
-      row_found : (s : Stand) × (looked_up bytes p.props r e ≡ Lookeds.Row s)
+      row_found : (s : Stand) × (looked_up bytes p.props r e ≡ Ok s)
       row_found = let (v, x, h) = row_shows (m.next r (column_for e)) inside in (_, leads ∙ h)
 
     -- and so look-ups one after another
@@ -149,8 +144,8 @@ module _ (p : Plant) (fair label next : List ℕ) (rule : Rule) (given : Input p
     walk [] ok r l = refl
     walk (g ∷ gs) (ok, rest) r l =
         let (v, x, e) = row_shows r l in
-        ap (λ (s : Looked). foldl (look_on bytes p.props) (look_on bytes p.props s g) gs) e
-        ∙ ap (λ (s : Looked). foldl (look_on bytes p.props) s gs) (leads r l g ok)
+        ap (λ (s : Result Stand Refusal). foldl (look_on bytes p.props) (look_on bytes p.props s g) gs) e
+        ∙ ap (λ (s : Result Stand Refusal). foldl (look_on bytes p.props) s gs) (leads r l g ok)
         ∙ walk gs rest (m.next r (column_for g)) (inside r l g ok)
 
     -- looked up are events that stand for what an accepted log brings
@@ -171,21 +166,21 @@ module _ (p : Plant) (fair label next : List ℕ) (rule : Rule) (given : Input p
   -- ---- in what the call wrote
 
   -- where it answers with rows, the bytes are those of the machine
-  abbrev size_of : Made → Size
-  size_of (Mades.Rows s) = s
-  size_of (Mades.Refused x) = record { rows = 0; bytes = 0 }
+  abbrev size_of : Result Size Refusal → Size
+  size_of (Ok s) = s
+  size_of (Err x) = record { rows = 0; bytes = 0 }
 
-  abbrev is_rows : Made → ℕ
-  is_rows (Mades.Rows s) = 1
-  is_rows (Mades.Refused x) = 0
+  abbrev is_rows : Result Size Refusal → ℕ
+  is_rows (Ok s) = 1
+  is_rows (Err x) = 0
 
-  module _ (work left old new : List ℕ) (size : Size) (answered : Machined p fair label next rule work left old new (Mades.Rows size)) where
+  module _ (work left old new : List ℕ) (size : Size) (answered : Machined p fair label next rule work left old new (Ok size)) where
     -- WHAT THE CALL WROTE is a machine of this monitor, byte for byte, with as many rows as it answers
     pub wrote : (m : Machine) × Stands m (bytes_of size new) × (m.rows ≡ size.rows)
     wrote = by (machine_outcome p fair label next rule (length work)) refl answered
       where
         laid : (three : p.props ≤ 3) (m : Machine) → (MoreThan c (step_at T f (live_set T f)) (model.opening T f (live_set T f)) 256 → ⊥) → MadeFor T f m
-            → (t : Bool) → leb (m.rows * (c + 2)) (length old) ≡ t → LaidBy t c m old new (Mades.Rows size) → Stands m (bytes_of size new) × (m.rows ≡ size.rows)
+            → (t : Bool) → leb (m.rows * (c + 2)) (length old) ≡ t → LaidBy t c m old new (Ok size) → Stands m (bytes_of size new) × (m.rows ≡ size.rows)
         laid three m few of false g (e, n) = absurd (omega (arith, ap is_rows e))
         laid three m few of true g (e, n) =
             let k = m.rows * (c + 2) in
@@ -200,13 +195,13 @@ module _ (p : Plant) (fair label next : List ℕ) (rule : Rule) (given : Input p
                   are = λ q l. get_or-take k new q 0 l ∙ ap (λ (b : List ℕ). get_or b q 0) n ∙ written_at k (table_byte c m) old q l fits;
                 };
               }),
-              sym (ap (λ (x : Made). (size_of x).rows) e),
+              sym (ap (λ (x : Result Size Refusal). (size_of x).rows) e),
             )
 
-        by : (o : Outcome) → machine_outcome p fair label next rule (length work) ≡ o → MachinedAs T f o work left old new (Mades.Rows size) → (m : Machine) × Stands m (bytes_of size new) × (m.rows ≡ size.rows)
-        by (Outcomes.Refused x) g (e, _, _) = absurd (omega (arith, ap is_rows e))
-        by Outcomes.Accepted g (_, over many e s) = absurd (omega (arith, ap is_rows e))
-        by Outcomes.Accepted g (_, made m few of is-laid) =
+        by : (o : Outcome) → machine_outcome p fair label next rule (length work) ≡ o → MachinedAs T f o work left old new (Ok size) → (m : Machine) × Stands m (bytes_of size new) × (m.rows ≡ size.rows)
+        by (Err x) g (e, _, _) = absurd (omega (arith, ap is_rows e))
+        by (Ok _) g (_, over many e s) = absurd (omega (arith, ap is_rows e))
+        by (Ok _) g (_, made m few of is-laid) =
             let (stands, rows) = laid three m few of (leb (m.rows * (c + 2)) (length old)) refl is-laid in
             (m, stands, rows)
           where
@@ -214,7 +209,7 @@ module _ (p : Plant) (fair label next : List ℕ) (rule : Rule) (given : Input p
             three = elim (dec_lt 3 p.props) [ yes l ↦ refused_none (sym (outcome_many p fair label next rule (length work) l) ∙ g) | no d ↦ omega arith ]
 
     -- A LOOK-UP IS NEVER REFUSED there, from any row and with any legal event
-    pub never_refused : (r : ℕ) → r < size.rows → (e : Event) → So (legal_of e p.props) → (s : Stand) × (looked_up (bytes_of size new) p.props r e ≡ Lookeds.Row s)
+    pub never_refused : (r : ℕ) → r < size.rows → (e : Event) → So (legal_of e p.props) → (s : Stand) × (looked_up (bytes_of size new) p.props r e ≡ Ok s)
     never_refused r l e ok = let (m, stands, rows) = wrote in row_found stands r (rw rows l) e ok
 
     -- where none is lost, the events are looked up as they are

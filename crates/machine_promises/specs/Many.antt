@@ -1,7 +1,7 @@
 -- MANY EVENTS IN ONE CALL SHOW WHAT STEPPING SHOWS: of the bytes that `make_machine` wrote, `look_through` writes for each event what the box shows behind it
 -- (`many_agree`, in proofs/Many). `through_of` (machine_events/specs/Through) is by the contract of `look_through` what it answers and writes.
 use Prim.Native.Nat.{ℕ, zero, suc, ◌+◌, ◌-◌, ◌*◌, ◌/◌, ◌<◌}
-use Rattle.std.specs.Prelude.{◌≡◌, refl, Bool, ◌&&◌, cond, leb, ltb, get_or, replicate}
+use Rattle.std.specs.Prelude.{◌≡◌, refl, Bool, ◌&&◌, cond, leb, ltb, get_or, replicate, Result, Ok, Err}
 use Rattle.std.proofs.Math.Path.{sym, ap, subst}
 use Rattle.std.proofs.Common.{ap₂, ◌∙◌, add-zero}
 use Rattle.std.proofs.Math.Bool.{true, false}
@@ -14,8 +14,7 @@ use Rattle.answers.specs.declared.Kind.TheVariants.{Value}
 use Rattle.answers.specs.declared.Verdict.TheVariants.{OutOfModel}
 use Rattle.answers.specs.declared.Lamp.{Lamp}
 use Rattle.answers.specs.declared.Refusal.{Refusal}
-use Rattle.answers.specs.declared.Answer.{Answer}
-use Rattle.answers.specs.declared.Answer.TheVariants.{Shown, Refused}
+use Rattle.answers.specs.Results.{Answer}
 use Rattle.answers.specs.Paper as paper
 use Rattle.answers.specs.Paper.{refused_at}
 use Rattle.plant.specs.declared.Plant.{Plant}
@@ -26,12 +25,9 @@ use Rattle.checks.specs.Input.{Input}
 use Rattle.event_numbers.specs.Numbers.{unseen}
 use Rattle.watching.specs.Filled.{seen_from, expected_from, filled_from, filled, filled_append}
 use Rattle.watching.specs.Watching.{after, TakenFrom, AllTaken}
-use Rattle.fixed_machine.specs.declared.Made.TheVariants as Mades
 use Rattle.fixed_machine.specs.declared.Size.{Size}
 use Rattle.fixed_machine.specs.Machined.{Machined}
 use Rattle.machine_lookup.specs.declared.Stand.{Stand}
-use Rattle.machine_lookup.specs.declared.Looked.{Looked}
-use Rattle.machine_lookup.specs.declared.Looked.TheVariants as Lookeds
 use Rattle.machine_lookup.specs.Lookup.{stand_at}
 use Rattle.machine_events.specs.Through as through
 use Rattle.machine_events.specs.Through.{event_in, standing}
@@ -43,8 +39,8 @@ events_to events n = list_below n (λ k. event_in (get_or events k 0))
 
 -- the lamp that an answer shows; a refusal shows none, and stands for out-of-model here
 abbrev pub lamp_of : Answer → Lamp
-lamp_of (Shown lamp) = lamp
-lamp_of (Refused r) = record { verdict = OutOfModel; left = 0 }
+lamp_of (Ok lamp) = lamp
+lamp_of (Err r) = record { verdict = OutOfModel; left = 0 }
 
 -- lamps as bytes, one after another: the verdict's number, and `left`
 unfoldable pub bytes_by : (ℕ → Lamp) → ℕ → List ℕ
@@ -69,17 +65,17 @@ gapless events (suc n) =
     ∙ sym (map-append event_of es (event_in (get_or events n 0) ∷ []))
 
 -- a row that stands is the one that was asked for
-pub row_is : (bytes : List ℕ) (width row : ℕ) {s : Stand} → stand_at bytes width row ≡ Lookeds.Row s → s.row ≡ row
+pub row_is : (bytes : List ℕ) (width row : ℕ) {s : Stand} → stand_at bytes width row ≡ Ok s → s.row ≡ row
 unfolding stand_at
 row_is bytes width row {s} e =
     sym (ap row_of e)
     ∙ by (ltb row (length bytes / width) && (leb (get_or bytes (row * width) 0) 3 && leb (get_or bytes (row * width + 1) 0) 64)) (get_or bytes (row * width) 0) (get_or bytes (row * width + 1) 0) (refused_at Value 0)
   where
-    row_of : Looked → ℕ
-    row_of (Lookeds.Row s) = s.row
-    row_of (Lookeds.Refused r) = row
+    row_of : Result Stand Refusal → ℕ
+    row_of (Ok s) = s.row
+    row_of (Err r) = row
 
-    by : (t : Bool) (v l : ℕ) (r : Refusal) → row_of (cond t (Lookeds.Row (record { row = row; verdict = v; left = l })) (Lookeds.Refused r)) ≡ row
+    by : (t : Bool) (v l : ℕ) (r : Refusal) → row_of (cond t (Ok (record { row = row; verdict = v; left = l })) (Err r)) ≡ row
     by true v l r = refl
     by false v l r = refl
 
@@ -101,11 +97,11 @@ module _ (p : Plant) (fair label next : List ℕ) (rule : Rule) where
   -- for each event of a byte the lamp that the box shows behind it; and so the bytes are
   pub record EachShown (events : List ℕ) (s : through.Shown) : Type 0 where
     pub lamp : ℕ → Lamp
-    pub shows : (k : ℕ) → k < length events → (after p fair label next rule (events_to events (suc k))).answer ≡ Shown (lamp k)
+    pub shows : (k : ℕ) → k < length events → (after p fair label next rule (events_to events (suc k))).answer ≡ Ok (lamp k)
     pub row : ℕ
     pub finds : s ≡ standing (length events) row (bytes_by lamp (length events))
 
-  module _ (given : Input p fair label next rule) (work left old new : List ℕ) (size : Size) (answered : Machined p fair label next rule work left old new (Mades.Rows size)) (events : List ℕ) where
+  module _ (given : Input p fair label next rule) (work left old new : List ℕ) (size : Size) (answered : Machined p fair label next rule work left old new (Ok size)) (events : List ℕ) where
     abbrev pub es : ℕ → List Event
     es n = events_to events n
 

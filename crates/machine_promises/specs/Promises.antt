@@ -1,14 +1,13 @@
 -- WHAT IS PROMISED OF `make_machine`. What it answers and leaves is determined: `one_answer`. 15 exactly if more than 256 monitor states are reached: `fifteen_exactly`; the words end 0: `words_end_zero`.
 -- Each row is reached, and no two answer alike: `rows_reached`, `rows_differ`; no machine that answers alike has fewer rows: `none_smaller`. That machine and stepping agree is in Agrees.
-use Rattle.std.specs.Prelude.{ℕ, ◌+◌, ◌*◌, ◌≤◌, ◌<◌, ◌≡◌, ◌↔◌, Bool, true, false, List, leb, length, replicate}
+use Rattle.std.specs.Prelude.{ℕ, ◌+◌, ◌*◌, ◌≤◌, ◌<◌, ◌≡◌, ◌↔◌, Bool, true, false, List, leb, length, replicate, Result, Ok, Err}
 use Rattle.std.proofs.Common.{sym, ap, subst, ◌∙◌, arith}
 use Rattle.meaning.specs.Formula.{Formula}
 use Rattle.meaning.specs.Run as run
 use Rattle.model.specs.LiveSet.{live_set}
 use Rattle.model.specs.Monitor as model
 use Rattle.answers.specs.declared.Kind.TheVariants.{Rows}
-use Rattle.answers.specs.declared.Outcome.{Outcome}
-use Rattle.answers.specs.declared.Outcome.TheVariants.{Accepted, Refused}
+use Rattle.answers.specs.Results.{Outcome}
 use Rattle.answers.specs.Paper.{refused_at, kind_number}
 use Rattle.plant.specs.declared.Plant.{Plant}
 use Rattle.plant.specs.Table.{plant_of}
@@ -23,8 +22,8 @@ use Rattle.machines.specs.Follow.{stepped}
 use Rattle.machines.specs.Made as machines
 use Rattle.machines.proofs.Made as machines_laws
 use Rattle.joined.specs.Written.{written, written_same}
-use Rattle.fixed_machine.specs.declared.Made.{Made}
-use Rattle.fixed_machine.specs.declared.Made.TheVariants as Mades
+use Rattle.fixed_machine.specs.declared.Size.{Size}
+use Rattle.answers.specs.declared.Refusal.{Refusal}
 use Rattle.fixed_machine.specs.Worked.{LaidBy, Laid, over, made}
 use Rattle.fixed_machine.specs.Machined.{step_at, shown_in, WorkedFor, MachinedAs, machine_outcome, Machined}
 use Rattle.machine_promises.specs.Agrees.{MadeFor}
@@ -54,17 +53,17 @@ module _ (T : run.Plant) (f : Formula) (m : Machine) (made_for : MadeFor T f m) 
 -- ---- the call
 
 -- what was laid is determined by the machine
-laid_one : (c : ℕ) (m n : Machine) (old new new' : List ℕ) (r r' : Made) → Equal c m n → Laid c m old new r → Laid c n old new' r' → (r ≡ r') × (new ≡ new')
+laid_one : (c : ℕ) (m n : Machine) (old new new' : List ℕ) (r r' : Result Size Refusal) → Equal c m n → Laid c m old new r → Laid c n old new' r' → (r ≡ r') × (new ≡ new')
 laid_one c m n old new new' r r' equal a b = go (leb (m.rows * (c + 2)) (length old)) a (subst (λ (t : Bool). LaidBy t c n old new' r') (ap (λ (k : ℕ). leb (k * (c + 2)) (length old)) (sym equal.size)) b)
   where
     go : (t : Bool) → LaidBy t c m old new r → LaidBy t c n old new' r' → (r ≡ r') × (new ≡ new')
     go true (e, w) (e', w') = (
-      e ∙ ap (λ (k : ℕ). Mades.Rows (record { rows = k; bytes = c + 2 })) equal.size ∙ sym e',
+      e ∙ ap (λ (k : ℕ). Ok (record { rows = k; bytes = c + 2 })) equal.size ∙ sym e',
       w ∙ written_same (m.rows * (c + 2)) (table_byte c m) (table_byte c n) old (bytes_equal equal) ∙ ap (λ (k : ℕ). written (k * (c + 2)) (table_byte c n) old) equal.size ∙ sym w',
     )
     go false (e, w) (e', w') = (e ∙ sym e', w ∙ sym w')
 
-worked_one : (T : run.Plant) (f : Formula) (old new new' : List ℕ) (r r' : Made) → WorkedFor T f old new r → WorkedFor T f old new' r' → (r ≡ r') × (new ≡ new')
+worked_one : (T : run.Plant) (f : Formula) (old new new' : List ℕ) (r r' : Result Size Refusal) → WorkedFor T f old new r → WorkedFor T f old new' r' → (r ≡ r') × (new ≡ new')
 worked_one T f old new new' r r' (over a e s) (over b e' s') = (e ∙ sym e', s ∙ sym s')
 worked_one T f old new new' r r' (over a e s) (made n few m laid) = absurd (few a)
 worked_one T f old new new' r r' (made n few m laid) (over b e s) = absurd (few b)
@@ -78,15 +77,15 @@ module _ (p : Plant) (fair label next : List ℕ) (rule : Rule) (work old : List
   f = formula_of rule
 
   -- TWO RESULTS THAT THE CALL ALLOWS ARE EQUAL: the answer, the words and the bytes
-  pub one_answer : (left left' new new' : List ℕ) (r r' : Made) → Machined p fair label next rule work left old new r → Machined p fair label next rule work left' old new' r'
+  pub one_answer : (left left' new new' : List ℕ) (r r' : Result Size Refusal) → Machined p fair label next rule work left old new r → Machined p fair label next rule work left' old new' r'
       → (r ≡ r') × (left ≡ left') × (new ≡ new')
   one_answer left left' new new' r r' = go (machine_outcome p fair label next rule (length work))
     where
       go : (o : Outcome) → MachinedAs T f o work left old new r → MachinedAs T f o work left' old new' r' → (r ≡ r') × (left ≡ left') × (new ≡ new')
-      go (Refused x) (e, l, n) (e', l', n') = (e ∙ sym e', l ∙ sym l', n ∙ sym n')
-      go Accepted (z, w) (z', w') = let (e, n) = worked_one T f old new new' r r' w w' in (e, z ∙ sym z', n)
+      go (Err x) (e, l, n) (e', l', n') = (e ∙ sym e', l ∙ sym l', n ∙ sym n')
+      go (Ok _) (z, w) (z', w') = let (e, n) = worked_one T f old new new' r r' w w' in (e, z ∙ sym z', n)
 
-  module _ (left new : List ℕ) (r : Made) (ok : machine_outcome p fair label next rule (length work) ≡ Accepted) (answered : Machined p fair label next rule work left old new r) where
+  module _ (left new : List ℕ) (r : Result Size Refusal) (ok : machine_outcome p fair label next rule (length work) ≡ Ok tt) (answered : Machined p fair label next rule work left old new r) where
     behind : (left ≡ replicate (length work) 0) × WorkedFor T f old new r
     behind = subst (λ (o : Outcome). MachinedAs T f o work left old new r) ok answered
 
@@ -95,17 +94,17 @@ module _ (p : Plant) (fair label next : List ℕ) (rule : Rule) (work old : List
     words_end_zero = behind.0
 
     -- 15 EXACTLY where events lead to more than 256 states of the monitor
-    pub fifteen_exactly : (r ≡ Mades.Refused (refused_at Rows 0)) ↔ MoreThan (length (columns_of p.props)) (step_at T f (live_set T f)) (model.opening T f (live_set T f)) 256
+    pub fifteen_exactly : (r ≡ Err (refused_at Rows 0)) ↔ MoreThan (length (columns_of p.props)) (step_at T f (live_set T f)) (model.opening T f (live_set T f)) 256
     fifteen_exactly = go behind.1
       where
-        kind : Made → ℕ
-        kind (Mades.Rows s) = 0
-        kind (Mades.Refused x) = kind_number x.kind
+        kind : Result Size Refusal → ℕ
+        kind (Ok s) = 0
+        kind (Err x) = kind_number x.kind
 
         laid_kind : (t : Bool) (m : Machine) → LaidBy t (length (columns_of p.props)) m old new r → kind r ≡ 15 → ⊥
         laid_kind true m (e, _) h = omega (arith, sym (ap kind e) ∙ h)
         laid_kind false m (e, _) h = omega (arith, sym (ap kind e) ∙ h)
 
-        go : WorkedFor T f old new r → (r ≡ Mades.Refused (refused_at Rows 0)) ↔ MoreThan (length (columns_of p.props)) (step_at T f (live_set T f)) (model.opening T f (live_set T f)) 256
+        go : WorkedFor T f old new r → (r ≡ Err (refused_at Rows 0)) ↔ MoreThan (length (columns_of p.props)) (step_at T f (live_set T f)) (model.opening T f (live_set T f)) 256
         go (over many e s) = (λ _. many, λ _. e)
         go (made m few m-made laid) = (λ e. absurd (laid_kind (leb (m.rows * (length (columns_of p.props) + 2)) (length old)) m laid (ap kind e)), λ many. absurd (few many))

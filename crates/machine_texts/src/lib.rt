@@ -8,14 +8,14 @@ ghost use Rattle.opened.specs.Lent.{Lent};
 ghost use Rattle.opened.specs.Opened.{opened_of};
 ghost use Rattle.machine_texts.specs.Texts.{MadeOf, MadeFrom};
 
-use answers::Outcome;
-use fixed_machine::{Made, make_machine};
+use answers::Refusal;
+use fixed_machine::{Size, make_machine};
 use opened::open_texts;
 use plant::Table;
 use syntax::Rule;
 
 // Of a table as many parts are lent as it counts.
-fn made_of(table: Table, rule: Rule, work: &mut [u64], machine: &mut [u8]) -> Made
+fn made_of(table: Table, rule: Rule, work: &mut [u64], machine: &mut [u8]) -> Result<Size, Refusal>
     requires { Lent table }
     ensures { MadeOf table rule work.old work.new machine.old machine.new result }
 {
@@ -32,12 +32,15 @@ fn made_of(table: Table, rule: Rule, work: &mut [u64], machine: &mut [u8]) -> Ma
 
 // Reads a table and a rule, and writes the fixed machine that answers as their monitor does.
 #[tactic(auto, using(crate::specs::Texts::read_lent))]
-pub fn made_from(table: &[u8], rule: &[u8], work: &mut [u64], machine: &mut [u8]) -> Made
+pub fn made_from(
+    table: &[u8],
+    rule: &[u8],
+    work: &mut [u64],
+    machine: &mut [u8],
+) -> Result<Size, Refusal>
     ensures { MadeFrom (opened_of table.now rule.now) work.old work.new machine.old machine.new result }
 {
     let opened = open_texts(table, rule);
-    match opened.outcome {
-        Outcome::Refused(refusal) => Made::Refused(refusal),
-        Outcome::Accepted => made_of(opened.table, opened.rule, work, machine),
-    }
+    opened.outcome?;
+    made_of(opened.table, opened.rule, work, machine)
 }

@@ -1,14 +1,13 @@
 -- The minutes of a day, by what each check says and by how the day went.
+use Rattle.std.specs.Prelude.{Ok, Err}
 use Prim.Native.Nat.{ℕ, zero, suc, ◌*◌, ◌≤◌, zero-le}
 use native.Mathlib.Nat.{le_trans}
 use native.Mathlib.Omega.{arith}
 use mathlib.Core.Path.{◌≡◌, sym, ap, subst, ◌∙◌}
 use mathlib.Core.List.{List}
 use lib.ListN.{length}
-use Rattle.answers.specs.declared.Answer.{Answer}
-use Rattle.answers.specs.declared.Answer.TheVariants as Answers
-use Rattle.answers.specs.declared.Outcome.{Outcome}
-use Rattle.answers.specs.declared.Outcome.TheVariants.{Accepted, Refused}
+use Rattle.answers.specs.Results.{Answer}
+use Rattle.answers.specs.Results.{Outcome}
 use Rattle.answers.specs.Chain.{and_then}
 use Rattle.text.specs.Number.{width_of}
 use Rattle.text.specs.Lines.{start_is, lines_inside}
@@ -32,13 +31,13 @@ use Rattle.minutes.specs.Minutes.{at_line, minutes_by, minutes_in, minutes_from,
 -- ---- no more lines are taken than there are
 
 few_takes : (w : DayWent) (x : Noted) (a : Answer) → (takes w x a).done ≤ suc w.done
-few_takes w x (Answers.Shown l) = omega arith
-few_takes w x (Answers.Refused r) = omega arith
+few_takes w x (Ok l) = omega arith
+few_takes w x (Err r) = omega arith
 
 module _ (note : Monitor → DaySheet → Event → Noted) (m : Monitor) (s : DaySheet) (event : ℕ → Event) where
   few_on : (w : DayWent) (e : Event) (o : Outcome) → (go_on note w e o).done ≤ suc w.done
-  few_on w e Accepted = few_takes w (note w.monitor w.sheet e) (note w.monitor w.sheet e).answer
-  few_on w e (Refused r) = omega arith
+  few_on w e (Ok _) = few_takes w (note w.monitor w.sheet e) (note w.monitor w.sheet e).answer
+  few_on w e (Err r) = omega arith
 
   one_more : (a b : ℕ) → a ≤ b → suc a ≤ suc b
   one_more a b h = omega arith
@@ -65,7 +64,7 @@ module _ (o : Opened) (log : List ℕ) where
         (rw wide (subst (λ (x : DayWent). x.done ≤ whole_lines width log) (sym e)
         (few (noted_of o.table.plant (fair_in o.table) (label_in o.table) (next_in o.table) o.rule o.live) o.monitor day (event_at width log) (whole_lines width log))))
 
-    pub went_so : {x : Outcome} → x ≡ at_line (w.done * bytes) w.outcome → ◌≡◌ {A = Minutes} (record { outcome = x; sheet = w.sheet }) (minutes_in Accepted o log)
+    pub went_so : {x : Outcome} → x ≡ at_line (w.done * bytes) w.outcome → ◌≡◌ {A = Minutes} (record { outcome = x; sheet = w.sheet }) (minutes_in (Ok tt) o log)
     went_so is =
         ap (λ (x : Outcome). record { outcome = x; sheet = w.sheet })
         (is ∙ ap (λ (b : ℕ). at_line (w.done * b) w.outcome) wide ∙ ap (λ (n : ℕ). at_line n w.outcome) (sym (start_is (bytes_in width log) w.done)))

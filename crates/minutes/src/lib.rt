@@ -1,14 +1,13 @@
 // A day for the minutes: the texts of a table, a rule and a log, and the day sheet of the log, from the empty one on.
 #![tactic(auto)]
 
-ghost use Rattle.std.specs.Prelude.{◌≡◌};
-ghost use Rattle.answers.specs.declared.Outcome.TheVariants.{Accepted};
+ghost use Rattle.std.specs.Prelude.{◌≡◌, Ok};
 ghost use Rattle.text.specs.Number.{width_of};
 ghost use Rattle.event_log.specs.Read.{log_read};
 ghost use Rattle.opened.specs.Lent.{Lent};
 ghost use Rattle.minutes.specs.Minutes.{at_line, minutes_in, minutes_of, no_minutes};
 
-use answers::{Outcome, Refusal};
+use answers::Refusal;
 use day_log::note_log;
 use opened::{Opened, open_texts};
 use stretches::DaySheet;
@@ -16,7 +15,7 @@ use stretches::DaySheet;
 // Accepted, and the sheet of the whole day; or why not. Beside an event's refusal is the sheet behind the events before it, and beside any other the empty one.
 #[derive(Clone, Copy)]
 pub struct Minutes {
-    pub outcome: Outcome,
+    pub outcome: Result<(), Refusal>,
     pub sheet: DaySheet,
 }
 
@@ -25,7 +24,7 @@ impl Minutes {
         ensures { result ≡ no_minutes refusal }
     {
         Minutes {
-            outcome: Outcome::Refused(refusal),
+            outcome: Err(refusal),
             sheet: DaySheet::empty(),
         }
     }
@@ -37,8 +36,8 @@ pub fn note_texts(table: &[u8], rule: &[u8], log: &[u8]) -> Minutes
 {
     let opened = open_texts(table, rule);
     match opened.outcome {
-        Outcome::Refused(refusal) => Minutes::refused(refusal),
-        Outcome::Accepted => with_opened(opened, log),
+        Err(refusal) => Minutes::refused(refusal),
+        Ok(()) => with_opened(opened, log),
     }
 }
 
@@ -48,15 +47,15 @@ fn with_opened(opened: Opened, log: &[u8]) -> Minutes
     ensures { result ≡ minutes_in (log_read (width_of opened.table.plant.props) log.now).outcome opened log.now }
 {
     match event_log::read_log(log, opened.table.plant.props).outcome {
-        Outcome::Refused(refusal) => Minutes::refused(refusal),
-        Outcome::Accepted => note_lines(opened, log),
+        Err(refusal) => Minutes::refused(refusal),
+        Ok(()) => note_lines(opened, log),
     }
 }
 
 // Each line noted. The call on a log names no place, since it does not know of texts: here it is the offset of the line.
 fn note_lines(opened: Opened, log: &[u8]) -> Minutes
     requires { Lent opened.table }
-    ensures { result ≡ minutes_in Accepted opened log.now }
+    ensures { result ≡ minutes_in (Ok tt) opened log.now }
 {
     let table = opened.table;
     let plant = table.plant;
@@ -79,11 +78,11 @@ fn note_lines(opened: Opened, log: &[u8]) -> Minutes
     }
 }
 
-fn at_line(outcome: Outcome, offset: usize) -> Outcome
+fn at_line(outcome: Result<(), Refusal>, offset: usize) -> Result<(), Refusal>
     ensures { result ≡ at_line offset outcome }
 {
     match outcome {
-        Outcome::Accepted => Outcome::Accepted,
-        Outcome::Refused(refusal) => Outcome::Refused(Refusal::at(refusal.kind, offset)),
+        Ok(()) => Ok(()),
+        Err(refusal) => Err(Refusal::at(refusal.kind, offset)),
     }
 }

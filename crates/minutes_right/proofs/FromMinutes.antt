@@ -1,5 +1,5 @@
 -- From texts to the minutes of a day: the texts are opened, and each line of the log is noted. Here are the two claims of DayMinutes proved.
-use Rattle.std.specs.Prelude.{ℕ, ◌<◌, ◌≡◌, List, length, take}
+use Rattle.std.specs.Prelude.{ℕ, ◌<◌, ◌≡◌, List, length, take, Err}
 use Rattle.std.proofs.Common.{arith, sym, subst, ◌∙◌}
 use Rattle.std.proofs.Math.Path.{refl, ap}
 use Rattle.std.proofs.Math.Logic.{inl}
@@ -11,7 +11,6 @@ use Rattle.text.specs.Number.{width_of}
 use Rattle.text.specs.Written.{small_of}
 use Rattle.text.specs.FirstLine.{first_of}
 use Rattle.answers.specs.declared.Refusal.{Refusal}
-use Rattle.answers.specs.declared.Outcome.TheVariants as Outcomes
 use Rattle.answers.specs.Paper.{refused_at}
 use Rattle.plant.specs.Read.{counts_in, table_of, take_padded}
 use Rattle.plant.specs.Written.{table_slots, table_text}
@@ -114,7 +113,7 @@ module _ (t : run.Plant) (table : AcceptedTable t) (text : List ℕ) (says : Say
       upto = up_to k m s before kept
 
       by : (r : Refusal) → Stop (counts_in t) t.fair t.label t.next (rule_of f) (input t table text says rule f rule_says) es k s r
-          → Day t g es (ending (went (counts_in t) t.fair t.label t.next (rule_of f) (input t table text says rule f rule_says) (Outcomes.Refused r) k m s))
+          → Day t g es (ending (went (counts_in t) t.fair t.label t.next (rule_of f) (input t table text says rule f rule_says) (Err r) k m s))
       by r (illegal bad) = at_event k s low upto bad
       by r (stray fine bad) = at_number k s low upto fine bad
       by r (full fine many new) = at_stretch k s low upto fine many new

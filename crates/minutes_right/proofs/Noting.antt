@@ -1,7 +1,7 @@
 -- A log noted line by line, from the opening and the empty sheet on: each event is taken that is legal, has a number in turn and finds room on the sheet, up to the first that does not.
 use Prim.Native.Nat.{ℕ, zero, suc, ◌+◌, ◌≤◌, ◌<◌}
 use Rattle.std.proofs.Common.{arith, sym, ap₂, ◌∙◌, ⊎_elim, take-suc}
-use Rattle.std.specs.Prelude.{◌≡◌, Bool, true, eqb, length, take}
+use Rattle.std.specs.Prelude.{◌≡◌, Bool, true, eqb, length, take, Ok, Err}
 use Rattle.std.proofs.Math.Path.{refl, ap, subst}
 use Rattle.std.proofs.Math.Bool.{false, So, cond}
 use Rattle.std.proofs.lemmas.Bool.{false≢true}
@@ -19,8 +19,7 @@ use Rattle.model.specs.Sets.{PairSet}
 use Rattle.answers.specs.declared.Kind.TheVariants.{IllegalEvent, Stretches, Number as NumberKind}
 use Rattle.answers.specs.declared.Refusal.{Refusal}
 use Rattle.answers.specs.declared.Lamp.{Lamp}
-use Rattle.answers.specs.declared.Outcome.{Outcome}
-use Rattle.answers.specs.declared.Outcome.TheVariants.{Accepted, Refused}
+use Rattle.answers.specs.Results.{Outcome}
 use Rattle.answers.specs.Paper.{refused_at}
 use Rattle.plant.specs.declared.Plant.{Plant}
 use Rattle.syntax.specs.declared.Rule.{Rule}
@@ -98,13 +97,13 @@ module _ (p : Plant) (fair label next : List ℕ) (rule : Rule) (given : Input p
 
   -- behind n events: all of them were accepted, or the one behind the first k was not
   pub data Gone (es : List Event) (n : ℕ) (c : DayWent) : Type 0 where
-    going : (m : Monitor) (s : DaySheet) → TakenTo es n → Holds m → Keeps (take n es) m s → c ≡ went Accepted n m s → Gone es n c
-    ended : (k : ℕ) → k < n → (m : Monitor) (s : DaySheet) → TakenTo es k → Keeps (take k es) m s → (r : Refusal) → Stop es k s r → c ≡ went (Refused r) k m s → Gone es n c
+    going : (m : Monitor) (s : DaySheet) → TakenTo es n → Holds m → Keeps (take n es) m s → c ≡ went (Ok tt) n m s → Gone es n c
+    ended : (k : ℕ) → k < n → (m : Monitor) (s : DaySheet) → TakenTo es k → Keeps (take k es) m s → (r : Refusal) → Stop es k s r → c ≡ went (Err r) k m s → Gone es n c
 
   -- what the check of an event gives
   data Checked (es : List Event) (n : ℕ) : Outcome → Type 0 where
-    passes : TakenAt T es n → Checked es n Accepted
-    fails : (r : Refusal) → ((s : DaySheet) → Stop es n s r) → Checked es n (Refused r)
+    passes : TakenAt T es n → Checked es n (Ok tt)
+    fails : (r : Refusal) → ((s : DaySheet) → Stop es n s r) → Checked es n (Err r)
 
   checked : (es : List Event) (n : ℕ) → Checked es n (event_outcome (get_or es n nothing) p.props (seen_from false (take n es)) (expected_at es n))
   unfolding event_outcome
@@ -123,7 +122,7 @@ module _ (p : Plant) (fair label next : List ℕ) (rule : Rule) (given : Input p
       not_legal h l = false≢true (sym h ∙ (legal_exactly T e).1 (omega (arith, given.table.few_props), l))
 
       by : (b : Bool) → legal_of e p.props ≡ b → (c : Bool) → in_turn (seen_from false (take n es)) (expected_at es n) (number_at es n) ≡ c
-          → Checked es n (cond b (cond c Accepted (Refused (refused_at NumberKind 0))) (Refused (refused_at IllegalEvent 0)))
+          → Checked es n (cond b (cond c (Ok tt) (Err (refused_at NumberKind 0))) (Err (refused_at IllegalEvent 0)))
       by true l true t = passes (is_legal_lem l, turn.0 t)
       by true l false t = fails _ (λ s. stray (is_legal_lem l) (λ h. false≢true (sym t ∙ turn.1 h)))
       by false l c t = fails _ (λ s. illegal (not_legal l))
@@ -173,10 +172,10 @@ module _ (p : Plant) (fair label next : List ℕ) (rule : Rule) (given : Input p
 
     -- the day behind it
     abbrev behind : Noted → DayWent
-    behind x = takes (went Accepted n m s) x x.answer
+    behind x = takes (went (Ok tt) n m s) x x.answer
 
     -- refused by 10 or 16
-    stops : (r : Refusal) → outcome ≡ Refused r → Stop es n s r → Gone es (suc n) (behind (note m s e))
+    stops : (r : Refusal) → outcome ≡ Err r → Stop es n s r → Gone es (suc n) (behind (note m s e))
     stops r g why = ended n (omega arith) m s taken kept r why (ap behind (note_by_lem g))
 
     -- the sheet has no room for it
@@ -187,16 +186,16 @@ module _ (p : Plant) (fair label next : List ℕ) (rule : Rule) (given : Input p
         let is : s.count ≡ 64 = eqb-true s.count 64 many in
         (is, only_restart e.new m.seen opens (some_came is))
 
-    refused_by_23 : outcome ≡ Accepted → TakenAt T es n → is_full s m.seen e.new ≡ true → Gone es (suc n) (behind (note m s e))
+    refused_by_23 : outcome ≡ Ok tt → TakenAt T es n → is_full s m.seen e.new ≡ true → Gone es (suc n) (behind (note m s e))
     refused_by_23 g t h =
         let (many, new) = room_for_none h in
-        ended n (omega arith) m s taken kept (refused_at Stretches 0) (full t many new) (ap behind (note_by_lem g ∙ ap (noted (stepped Accepted)) h))
+        ended n (omega arith) m s taken kept (refused_at Stretches 0) (full t many new) (ap behind (note_by_lem g ∙ ap (noted (stepped (Ok tt))) h))
 
-    goes_on : outcome ≡ Accepted → TakenAt T es n → is_full s m.seen e.new ≡ false → Gone es (suc n) (behind (note m s e))
-    goes_on g t h = going (note m s e).monitor (note m s e).sheet taken' held' kept' (ap (takes (went Accepted n m s) (note m s e)) answer)
+    goes_on : outcome ≡ Ok tt → TakenAt T es n → is_full s m.seen e.new ≡ false → Gone es (suc n) (behind (note m s e))
+    goes_on g t h = going (note m s e).monitor (note m s e).sheet taken' held' kept' (ap (takes (went (Ok tt) n m s) (note m s e)) answer)
       where
-        is : note m s e ≡ noted (stepped Accepted) false
-        is = note_by_lem g ∙ ap (noted (stepped Accepted)) h
+        is : note m s e ≡ noted (stepped (Ok tt)) false
+        is = note_by_lem g ∙ ap (noted (stepped (Ok tt))) h
 
         lamp : Lamp
         lamp = lamp_in (brought p fair label next rule known.words (model_of m) m.expected e)
@@ -243,4 +242,4 @@ module _ (p : Plant) (fair label next : List ℕ) (rule : Rule) (given : Input p
         by c (ended k l m s taken kept r why is) = ended k (omega arith) m s taken kept r why (ap (λ (x : DayWent). go_on note x (event n) x.outcome) is)
         by c (going m s taken held kept is) =
             subst (λ (x : DayWent). Gone es (suc n) (go_on note x (event n) x.outcome)) (sym is)
-            (subst (λ (e : Event). Gone es (suc n) (takes (went Accepted n m s) (note m s e) (note m s e).answer)) (sym (same n)) (one_on es n h m s taken held kept _ refl (checked es n)))
+            (subst (λ (e : Event). Gone es (suc n) (takes (went (Ok tt) n m s) (note m s e) (note m s e).answer)) (sym (same n)) (one_on es n h m s taken held kept _ refl (checked es n)))

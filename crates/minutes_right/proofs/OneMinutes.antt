@@ -1,5 +1,5 @@
 -- The minutes leave no choice: of a table, a rule and events there is one sheet, one first event that is refused, and so one answer that DayMinutes allows.
-use Rattle.std.specs.Prelude.{ℕ, zero, suc, ◌+◌, ◌≤◌, ◌<◌, ◌≡◌, refl, Bool, true, false, cond, List, [], ◌∷◌, ◌++◌, map, length, get_or, take, drop, replicate}
+use Rattle.std.specs.Prelude.{ℕ, zero, suc, ◌+◌, ◌≤◌, ◌<◌, ◌≡◌, refl, Bool, true, false, cond, List, [], ◌∷◌, ◌++◌, map, length, get_or, take, drop, replicate, Ok}
 use Rattle.std.proofs.Common.{zero-le, arith, sym, ap, ap₂, subst, ◌∙◌, ⊎_elim, take-append-drop, ext_get_or, take-suc, take-take}
 use Rattle.std.proofs.Math.Bool.{So}
 use Rattle.std.proofs.lemmas.List.{map-append, length-map}
@@ -10,7 +10,6 @@ use Rattle.meaning.specs.Run.{Plant}
 use Rattle.meaning.specs.Event as meaning
 use Rattle.answers.specs.declared.Kind.{Kind}
 use Rattle.answers.specs.declared.Kind.TheVariants.{IllegalEvent, Stretches, Number as NumberKind}
-use Rattle.answers.specs.declared.Outcome.TheVariants.{Accepted}
 use Rattle.answers.proofs.Promises.{one_verdict}
 use Rattle.event_log.specs.declared.Event.{Event}
 use Rattle.event_log.specs.Legal.{event_of}
@@ -158,7 +157,7 @@ module _ (t : Plant) (f : Formula) where
   kind_one es k r s a b (full fine is new) (full fine' is' new') = refl
 
   data Ends (es : List Event) : Minutes → Type 0 where
-    ends : (s : DaySheet) → UpTo t f es (length es) s → Ends es (record { outcome = Accepted; sheet = s })
+    ends : (s : DaySheet) → UpTo t f es (length es) s → Ends es (record { outcome = Ok tt; sheet = s })
     halts : (kind : Kind) (k : ℕ) (s : DaySheet) → k < length es → UpTo t f es k s → Stops es k s kind → Ends es (stopped_by kind t es k s)
 
   ends_so : {es : List Event} {m : Minutes} → Day t f es m → Ends es m
@@ -168,7 +167,7 @@ module _ (t : Plant) (f : Formula) where
   ends_so (at_stretch k s low u fine is new) = halts Stretches k s low u (full fine is new)
 
   one_end : {es : List Event} {a b : Minutes} → Ends es a → Ends es b → a ≡ b
-  one_end {es} (ends r u) (ends s v) = ap (λ (d : DaySheet). record { outcome = Accepted; sheet = d }) (sheet_one (take (length es) es) r s u.sheet v.sheet)
+  one_end {es} (ends r u) (ends s v) = ap (λ (d : DaySheet). record { outcome = Ok tt; sheet = d }) (sheet_one (take (length es) es) r s u.sheet v.sheet)
   one_end {es} (ends r u) (halts kind k s low v why) = absurd (no_later es k s kind low v why (length es) r low u)
   one_end {es} (halts kind k r low u why) (ends s v) = absurd (no_later es k r kind low u why (length es) s low v)
   one_end {es} (halts a k r low u why) (halts b m s low' v why') = by same u why

@@ -2,7 +2,7 @@
 -- and `every_minutes`; this page has no proof, so what it takes from other files is what must be believed. It reads as FrontDoor and WholeLog (front_door/specs) do, and beside them:
 -- `numbered_from` (day_sheet/specs/Afresh) gives every event its number, those that were not received among them, and `lines_of` (stretches/specs/Afresh) makes lines of what was shown.
 -- `minutes_of` (minutes/specs/Minutes) is by the contract of `note_texts` its answer.
-use Rattle.std.specs.Prelude.{ℕ, suc, ◌≤◌, ◌<◌, ◌≡◌, false, List, map, length, get_or, take}
+use Rattle.std.specs.Prelude.{ℕ, suc, ◌≤◌, ◌<◌, ◌≡◌, false, List, map, length, get_or, take, Ok, Err}
 use Rattle.std.proofs.Math.Bool.{So}
 use Rattle.meaning.specs.Formula.{Formula}
 use Rattle.meaning.specs.Run.{Plant}
@@ -15,7 +15,6 @@ use Rattle.text.specs.Place.{RefusedAt}
 use Rattle.answers.specs.declared.Verdict.TheVariants.{Inconclusive}
 use Rattle.answers.specs.declared.Kind.{Kind}
 use Rattle.answers.specs.declared.Kind.TheVariants.{Bits, TableText, LogText, IllegalEvent, Stretches, Number as NumberKind}
-use Rattle.answers.specs.declared.Outcome.TheVariants.{Accepted, Refused}
 use Rattle.answers.specs.Paper.{number_of, refused_at}
 use Rattle.plant.specs.Table.{BitBeyond}
 use Rattle.plant.specs.Text.{table_form}
@@ -62,12 +61,12 @@ pub record UpTo (t : Plant) (f : Formula) (es : List Event) (k : ℕ) (s : DaySh
 
 -- event k is refused at the offset of its line, and the sheet is that of the events before it
 abbrev pub stopped_by : Kind → Plant → List Event → ℕ → DaySheet → Minutes
-stopped_by kind t es k s = record { outcome = Refused (refused_at kind (line_of t es k)); sheet = s }
+stopped_by kind t es k s = record { outcome = Err (refused_at kind (line_of t es k)); sheet = s }
 
 -- all events are accepted; or event k is the first that is not: by 10 where it is not legal, else by 16 where its number is not in turn, else by 23 where it is a restart and there are
 -- 64 stretches
 pub data Day (t : Plant) (f : Formula) (es : List Event) : Minutes → Type 0 where
-  at_end_lem : (s : DaySheet) → UpTo t f es (length es) s → Day t f es (record { outcome = Accepted; sheet = s })
+  at_end_lem : (s : DaySheet) → UpTo t f es (length es) s → Day t f es (record { outcome = Ok tt; sheet = s })
   at_event : (k : ℕ) (s : DaySheet) → k < length es → UpTo t f es k s → (LegalAt t es k → ⊥) → Day t f es (stopped_by IllegalEvent t es k s)
   at_number : (k : ℕ) (s : DaySheet) → k < length es → UpTo t f es k s → LegalAt t es k → (InTurnAt es k → ⊥) → Day t f es (stopped_by NumberKind t es k s)
   at_stretch : (k : ℕ) (s : DaySheet) → k < length es → UpTo t f es k s → TakenAt t es k → s.count ≡ 64 → So (get_or es k nothing).new → Day t f es (stopped_by Stretches t es k s)

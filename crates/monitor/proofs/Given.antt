@@ -1,4 +1,5 @@
 -- What the checks of a call give the code behind them.
+use Rattle.std.specs.Prelude.{Ok, Err}
 use Prim.Native.Nat.{ℕ, ◌+◌, ◌-◌, ◌^◌, ◌<◌}
 use native.Mathlib.Omega.{arith}
 use mathlib.Core.Path.{◌≡◌, refl, sym, ap, ap₂, ◌∙◌}
@@ -15,10 +16,8 @@ use Rattle.model.specs.Sets.{PairSet}
 use Rattle.model.specs.Checks.{pairs_ok, pairs_says, event_ok, legal_says}
 use Rattle.answers.specs.declared.Kind.TheVariants.{Value, IllegalEvent, Number as NumberKind}
 use Rattle.answers.specs.declared.Refusal.{Refusal}
-use Rattle.answers.specs.declared.Answer.{Answer}
-use Rattle.answers.specs.declared.Answer.TheVariants as Answers
-use Rattle.answers.specs.declared.Outcome.{Outcome}
-use Rattle.answers.specs.declared.Outcome.TheVariants.{Accepted, Refused}
+use Rattle.answers.specs.Results.{Answer}
+use Rattle.answers.specs.Results.{Outcome}
 use Rattle.answers.specs.Chain.{refused_as, and_then, unless, chain_accepts, unless_accepts}
 use Rattle.plant.specs.declared.Plant.{Plant}
 use Rattle.syntax.specs.declared.Rule.{Rule}
@@ -43,7 +42,7 @@ abbrev watched_with : Answer → Monitor → Watched
 watched_with a m = record { answer = a; monitor = m }
 
 -- a new monitor with its lamp
-lighted : (old : Monitor) (expected : ℕ) (n : model.Monitor) {m : Monitor} {a : Answer} → m ≡ monitor_of expected n → a ≡ lamp_of (model_of m) → watched_with a m ≡ watched Accepted old expected n
+lighted : (old : Monitor) (expected : ℕ) (n : model.Monitor) {m : Monitor} {a : Answer} → m ≡ monitor_of expected n → a ≡ lamp_of (model_of m) → watched_with a m ≡ watched (Ok tt) old expected n
 lighted old expected n e l = ap₂ watched_with (l ∙ ap (λ (m : Monitor). lamp_of (model_of m)) e) e
 
 and_self : (b : Bool) → (b && b) ≡ b
@@ -52,8 +51,8 @@ and_self false = refl
 
 -- checks in turn
 in_turn_lem : (a b c : Outcome) → and_then (and_then a b) c ≡ and_then a (and_then b c)
-in_turn_lem Accepted b c = refl
-in_turn_lem (Refused r) b c = refl
+in_turn_lem (Ok _) b c = refl
+in_turn_lem (Err r) b c = refl
 
 -- 10 and 16 are such a chain
 pub event_checks : (e : Event) (props : ℕ) (seen : Bool) (expected : ℕ)
@@ -61,7 +60,7 @@ pub event_checks : (e : Event) (props : ℕ) (seen : Bool) (expected : ℕ)
 unfolding event_outcome
 event_checks e props seen expected = go (legal_of e props) (in_turn seen expected (number_of e.num expected))
   where
-    go : (b c : Bool) → cond b (cond c Accepted (refused_as NumberKind)) (refused_as IllegalEvent) ≡ and_then (unless b IllegalEvent) (unless c NumberKind)
+    go : (b c : Bool) → cond b (cond c (Ok tt) (refused_as NumberKind)) (refused_as IllegalEvent) ≡ and_then (unless b IllegalEvent) (unless c NumberKind)
     go true true = refl
     go true false = refl
     go false c = refl
@@ -93,11 +92,11 @@ module _ (p : Plant) (fair label next : List ℕ) (rule : Rule) where
     behind a b h = go (input_outcome p fair label next rule) refl
       where
         go : (o : Outcome) → o ≡ input_outcome p fair label next rule → and_then o a ≡ and_then o b
-        go Accepted e = h (accepted p fair label next rule full e refl)
-        go (Refused r) e = refl
+        go (Ok _) e = h (accepted p fair label next rule full e refl)
+        go (Err r) e = refl
 
     -- of checks 1, 2 and 9
-    both_accepted : (sets : Bool) → checked_of p fair label next rule sets ≡ Accepted → Input p fair label next rule × So sets
+    both_accepted : (sets : Bool) → checked_of p fair label next rule sets ≡ Ok tt → Input p fair label next rule × So sets
     both_accepted sets e =
         let (i, o) = (chain_accepts (input_outcome p fair label next rule) (unless sets Value)).0 e in
         (accepted p fair label next rule full refl i, (unless_accepts sets Value).0 o)
@@ -120,14 +119,14 @@ module _ (p : Plant) (fair label next : List ℕ) (rule : Rule) where
           e ∙ held_is w w 0 ∙ ap (λ (b : Bool). checked_of p fair label next rule (fine live.words && b)) (and-true (fine live.words))
           ∙ ap (checked_of p fair label next rule) (and_self (fine live.words))
 
-      pub open_input : o ≡ Accepted → Input p fair label next rule
+      pub open_input : o ≡ Ok tt → Input p fair label next rule
       open_input g = (both_accepted (fine live.words) (sym opens_checked ∙ g)).0
 
-      pub not_opened : {r : Refusal} → o ≡ Refused r → record { answer = Answers.Refused r; monitor = no_monitor } ≡ open_call p fair label next rule live
+      pub not_opened : {r : Refusal} → o ≡ Err r → record { answer = Err r; monitor = no_monitor } ≡ open_call p fair label next rule live
       unfolding open_call
       not_opened g = ap (λ (x : Outcome). watched x no_monitor 0 new) (sym g ∙ opens_checked)
 
-      pub is_opened : {m : Monitor} {a : Answer} → o ≡ Accepted → m ≡ opened_by p.start (ways_of label rule).holds live.words → a ≡ lamp_of (model_of m) → watched_with a m ≡ open_call p fair label next rule live
+      pub is_opened : {m : Monitor} {a : Answer} → o ≡ Ok tt → m ≡ opened_by p.start (ways_of label rule).holds live.words → a ≡ lamp_of (model_of m) → watched_with a m ≡ open_call p fair label next rule live
       unfolding open_call
       is_opened g em el =
           let (i, sets) = both_accepted (fine live.words) (sym opens_checked ∙ g) in
@@ -138,11 +137,11 @@ module _ (p : Plant) (fair label next : List ℕ) (rule : Rule) where
     -- ---- look
 
     module _ (m : Monitor) (w : Words m.keeps.words) (x : Words m.breaks.words) {o : Outcome} (e : o ≡ held_of p fair label next rule m.keeps.words m.breaks.words m.expected) where
-      pub not_lit : {r : Refusal} → o ≡ Refused r → Answers.Refused r ≡ look_call p fair label next rule m
+      pub not_lit : {r : Refusal} → o ≡ Err r → Err r ≡ look_call p fair label next rule m
       unfolding look_call
       not_lit g = ap (λ (y : Outcome). lit y (model_of m)) (sym g ∙ e ∙ held_is w x m.expected)
 
-      pub is_lit : {a : Answer} → o ≡ Accepted → a ≡ lamp_of (model_of m) → a ≡ look_call p fair label next rule m
+      pub is_lit : {a : Answer} → o ≡ Ok tt → a ≡ lamp_of (model_of m) → a ≡ look_call p fair label next rule m
       unfolding look_call
       is_lit g el = el ∙ ap (λ (y : Outcome). lit y (model_of m)) (sym g ∙ e ∙ held_is w x m.expected)
 
@@ -174,20 +173,20 @@ module _ (p : Plant) (fair label next : List ℕ) (rule : Rule) where
               (says_same (join_says _ _ i.table.few_states m.keeps.words m.breaks.words x y) (says_and (pairs_says _ _ m.keeps.words) (pairs_says _ _ m.breaks.words)))
               ∙ ap (λ (b : Bool). fine live.words && b) (and_assoc (fine m.keeps.words) (fine m.breaks.words) (leb m.expected (2 ^ 32)))
 
-      step_accepted : o ≡ Accepted → Input p fair label next rule × So sets
+      step_accepted : o ≡ Ok tt → Input p fair label next rule × So sets
       step_accepted g = both_accepted sets ((chain_accepts (checked_of p fair label next rule sets) _).0 (sym step_checked_lem ∙ g)).0
 
       -- and the number fits 32 bits
-      pub step_given : o ≡ Accepted → Input p fair label next rule × (number < 2 ^ 32)
+      pub step_given : o ≡ Ok tt → Input p fair label next rule × (number < 2 ^ 32)
       step_given g =
           let (legal, turn) = (chain_accepts (unless (event_ok (table p fair label next rule) (seen_of event)) IllegalEvent) _).0 ((chain_accepts (checked_of p fair label next rule sets) _).0 (sym step_checked_lem ∙ g)).1 in
           ((step_accepted g).0, ((in_turn_says m.seen m.expected number).0 ((unless_accepts _ NumberKind).0 turn)).number)
 
-      pub not_stepped : {r : Refusal} → o ≡ Refused r → record { answer = Answers.Refused r; monitor = m } ≡ step_call p fair label next rule live m event
+      pub not_stepped : {r : Refusal} → o ≡ Err r → record { answer = Err r; monitor = m } ≡ step_call p fair label next rule live m event
       unfolding step_call
       not_stepped g = ap (λ (z : Outcome). watched z m (number + 1) after) (sym g ∙ step_checked_lem)
 
-      pub is_stepped : {n : Monitor} {a : Answer} → o ≡ Accepted → n ≡ taken_in label next (ways_of label rule) live.words m event → a ≡ lamp_of (model_of n) → watched_with a n ≡ step_call p fair label next rule live m event
+      pub is_stepped : {n : Monitor} {a : Answer} → o ≡ Ok tt → n ≡ taken_in label next (ways_of label rule) live.words m event → a ≡ lamp_of (model_of n) → watched_with a n ≡ step_call p fair label next rule live m event
       unfolding step_call
       is_stepped g en el =
           let (i, all) = step_accepted g in

@@ -1,5 +1,5 @@
 -- What the calls on a monitor answer: the checks in their order (01, Refusal numbers), and behind them the monitor of `model`, which its theorems speak of.
-use Rattle.std.specs.Prelude.{ℕ, ◌+◌, ◌^◌, Bool, false, ◌&&◌, not, leb, replicate}
+use Rattle.std.specs.Prelude.{ℕ, ◌+◌, ◌^◌, Bool, false, ◌&&◌, not, leb, replicate, Ok, Err}
 use mathlib.Core.List.{List, foldl}
 use Rattle.meaning.specs.Formula.{Formula}
 use Rattle.meaning.specs.Run as run
@@ -8,10 +8,8 @@ use Rattle.pairs.specs.Sets.{empty_of}
 use Rattle.model.specs.Monitor as model
 use Rattle.model.specs.Checks.{pairs_ok, event_ok}
 use Rattle.answers.specs.declared.Kind.TheVariants.{Value, IllegalEvent, Number as NumberKind}
-use Rattle.answers.specs.declared.Answer.{Answer}
-use Rattle.answers.specs.declared.Answer.TheVariants as Answers
-use Rattle.answers.specs.declared.Outcome.{Outcome}
-use Rattle.answers.specs.declared.Outcome.TheVariants.{Accepted, Refused}
+use Rattle.answers.specs.Results.{Answer}
+use Rattle.answers.specs.Results.{Outcome}
 use Rattle.answers.specs.Paper.{shown}
 use Rattle.answers.specs.Chain.{and_then, unless}
 use Rattle.plant.specs.declared.Plant.{Plant}
@@ -38,12 +36,12 @@ lamp_of m = shown (not (empty_of m.keeps)) (not (empty_of m.breaks)) (model.left
 
 -- with a refusal the monitor handed in, else the new one, which expects a number, and its lamp
 abbrev pub watched : Outcome → Monitor → ℕ → model.Monitor → Watched
-watched Accepted old expected new = record { answer = lamp_of new; monitor = monitor_of expected new }
-watched (Refused r) old expected new = record { answer = Answers.Refused r; monitor = old }
+watched (Ok _) old expected new = record { answer = lamp_of new; monitor = monitor_of expected new }
+watched (Err r) old expected new = record { answer = Err r; monitor = old }
 
 abbrev pub lit : Outcome → model.Monitor → Answer
-lit Accepted m = lamp_of m
-lit (Refused r) m = Answers.Refused r
+lit (Ok _) m = lamp_of m
+lit (Err r) m = Err r
 
 -- ---- the calls, with the table and the rule that are handed in
 

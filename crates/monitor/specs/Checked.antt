@@ -3,7 +3,7 @@ use Rattle.std.specs.Prelude.{ℕ, ◌-◌, ◌^◌, Bool, ◌&&◌, List, leb}
 use Rattle.meaning.specs.Formula.{parts}
 use Rattle.pairs.specs.declared.Pairs.{Pairs}
 use Rattle.pairs.specs.Sets.{join_of}
-use Rattle.answers.specs.declared.Outcome.{Outcome}
+use Rattle.answers.specs.Results.{Outcome}
 use Rattle.answers.specs.Chain.{and_then}
 use Rattle.plant.specs.declared.Plant.{Plant}
 use Rattle.syntax.specs.declared.Rule.{Rule}

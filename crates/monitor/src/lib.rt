@@ -6,7 +6,7 @@ ghost use Rattle.sides.specs.Held.{model_of};
 ghost use Rattle.monitor.specs.Calls.{lamp_of, open_call, look_call, step_call};
 ghost use Rattle.monitor.specs.Checked.{held_of, caught_of};
 
-use answers::{Answer, Kind, Outcome, Refusal};
+use answers::{Answer, Kind, Refusal};
 use event_log::Event;
 use event_numbers::check_event;
 use pairs::Pairs;
@@ -25,7 +25,7 @@ pub struct Watched {
 fn lamp(monitor: Monitor) -> Answer
     ensures { result ≡ lamp_of (model_of monitor) }
 {
-    Answer::Shown(advance::lamp(monitor))
+    Ok(advance::lamp(monitor))
 }
 
 // Checks 1, 2 and 9: the table, the rule, two sets of pairs, and the number expected.
@@ -38,21 +38,21 @@ fn check_held(
     one: &[u64; 64],
     two: &[u64; 64],
     expected: u64,
-) -> Outcome
+) -> Result<(), Refusal>
     ensures { result ≡ held_of plant fair.now label.now next.now rule one.now two.now expected }
 {
     let outcome = checks::check_input(plant, fair, label, next, rule);
     match outcome {
-        Outcome::Refused(refusal) => Outcome::Refused(refusal),
-        Outcome::Accepted => {
+        Err(refusal) => Err(refusal),
+        Ok(()) => {
             let states = words::all(plant.states);
             let count = moves::valuations(syntax::parts_of(rule));
             let fits = checks::pairs_fit(one, states, count)
                 & (checks::pairs_fit(two, states, count) & (expected <= event_numbers::USED_UP));
             if fits {
-                return Outcome::Accepted;
+                return Ok(());
             }
-            Outcome::Refused(Refusal::at(Kind::Value, 0))
+            Err(Refusal::at(Kind::Value, 0))
         }
     }
 }
@@ -70,11 +70,11 @@ pub fn open(
 {
     let outcome = check_held(plant, fair, label, next, rule, &live.words, &live.words, 0);
     match outcome {
-        Outcome::Refused(refusal) => Watched {
-            answer: Answer::Refused(refusal),
+        Err(refusal) => Watched {
+            answer: Err(refusal),
             monitor: Monitor::NONE,
         },
-        Outcome::Accepted => {
+        Ok(()) => {
             let monitor = single_event::opened(plant.start, label, rule, live);
             Watched {
                 answer: lamp(monitor),
@@ -107,10 +107,9 @@ pub fn look(
         &breaks.words,
         monitor.expected,
     );
-    match outcome {
-        Outcome::Refused(refusal) => Answer::Refused(refusal),
-        Outcome::Accepted => lamp(monitor),
-    }
+    outcome?;
+    let lamp = advance::lamp(monitor);
+    Ok(lamp)
 }
 
 // Checks 1, 2, 9, 10 and 16.
@@ -123,7 +122,7 @@ fn check_step(
     live: Pairs,
     monitor: Monitor,
     event: Event,
-) -> Outcome
+) -> Result<(), Refusal>
     ensures { result ≡ caught_of plant fair.now label.now next.now rule live monitor event }
 {
     let keeps = monitor.keeps;
@@ -140,8 +139,8 @@ fn check_step(
         monitor.expected,
     );
     match outcome {
-        Outcome::Refused(refusal) => Outcome::Refused(refusal),
-        Outcome::Accepted => check_event(event, plant.props, monitor.seen, monitor.expected),
+        Err(refusal) => Err(refusal),
+        Ok(()) => check_event(event, plant.props, monitor.seen, monitor.expected),
     }
 }
 
@@ -160,11 +159,11 @@ pub fn step(
 {
     let outcome = check_step(plant, fair, label, next, rule, live, monitor, event);
     match outcome {
-        Outcome::Refused(refusal) => Watched {
-            answer: Answer::Refused(refusal),
+        Err(refusal) => Watched {
+            answer: Err(refusal),
             monitor,
         },
-        Outcome::Accepted => {
+        Ok(()) => {
             let stepped = single_event::stepped(label, next, rule, live, monitor, event);
             Watched {
                 answer: lamp(stepped),

@@ -1,4 +1,5 @@
 -- What a report is answered, by what was found of the runs and by where the log ends.
+use Rattle.std.specs.Prelude.{Ok, Err}
 use Prim.Native.Nat.{ℕ}
 use mathlib.Core.Path.{◌≡◌, refl, sym, ap, ◌∙◌}
 use mathlib.Core.Bool.{Bool, true, false, not}
@@ -7,8 +8,7 @@ use lib.ListN.{take}
 use Rattle.answers.specs.declared.Verdict.{Verdict}
 use Rattle.answers.specs.declared.Lamp.{Lamp}
 use Rattle.answers.specs.declared.Refusal.{Refusal}
-use Rattle.answers.specs.declared.Outcome.{Outcome}
-use Rattle.answers.specs.declared.Outcome.TheVariants as Outcomes
+use Rattle.answers.specs.Results.{Outcome}
 use Rattle.plant.specs.declared.Plant.{Plant}
 use Rattle.syntax.specs.declared.Rule.{Rule}
 use Rattle.event_log.specs.declared.Event.{Event}
@@ -50,11 +50,11 @@ module _ (p : Plant) (fair label next : List ℕ) (rule : Rule) (event : ℕ →
 
   -- behind the last event
   module _ (last : Monitor) (r : Report) {o : Outcome} (e : o ≡ report_checked r.claim r.keeping.long r.breaking.long) where
-    pub refused_by_lem : {x : Refusal} → o ≡ Outcomes.Refused x → Refused x ≡ judged_at p fair label next rule event n last r
+    pub refused_by_lem : {x : Refusal} → o ≡ Err x → Refused x ≡ judged_at p fair label next rule event n last r
     unfolding judged_at
     refused_by_lem f = rw (sym e ∙ f) refl
 
-    pub judged_by : o ≡ Outcomes.Accepted → {shown : Lamp} → shown ≡ lamp_in (model_of last) → {j : Judged} → j ≡ report_judged p fair label next rule event n shown.verdict r
+    pub judged_by : o ≡ Ok tt → {shown : Lamp} → shown ≡ lamp_in (model_of last) → {j : Judged} → j ≡ report_judged p fair label next rule event n shown.verdict r
         → j ≡ judged_at p fair label next rule event n last r
     unfolding judged_at
     judged_by f s is = rw (sym e ∙ f) (is ∙ ap (λ (l : Lamp). report_judged p fair label next rule event n l.verdict r) s)

@@ -1,4 +1,5 @@
 -- The runs of a report as they are put together, and the checks of a report, by what each test shows.
+use Rattle.std.specs.Prelude.{Ok, Err}
 use Prim.Native.Nat.{ℕ, ◌+◌, ◌-◌, ◌≤◌, ◌<◌, zero-le}
 use native.Mathlib.Omega.{arith}
 use native.Mathlib.Decide.{dec_lt}
@@ -12,7 +13,6 @@ use Rattle.io.proofs.Counting.{prefix_len_of_le}
 use Rattle.writing.specs.Put.{Put, puts, put_over}
 use Rattle.answers.specs.declared.Kind.TheVariants.{Value, RunLength}
 use Rattle.answers.specs.declared.Refusal.{Refusal}
-use Rattle.answers.specs.declared.Outcome.TheVariants.{Accepted, Refused}
 use Rattle.answers.specs.Paper.{refused_at}
 use Rattle.neighbour.specs.declared.sent.ShownRun.{ShownRun}
 use Rattle.neighbour.specs.Report.{no_run, joined_of, shown_of, RunSized, Sized, too_long, report_checked}
@@ -65,15 +65,15 @@ part_few n l h = rw length-take (omega arith)
 -- ---- the claim
 
 module _ (claim : ℕ) (keeping breaking : Bool) where
-  pub bad_claim : 3 < claim → {r : Refusal} → r ≡ refused_at Value 0 → Refused r ≡ report_checked claim keeping breaking
+  pub bad_claim : 3 < claim → {r : Refusal} → r ≡ refused_at Value 0 → Err r ≡ report_checked claim keeping breaking
   unfolding report_checked
   bad_claim h is = rw (is, lt-ltb 3 claim h) refl
 
   module _ (h : claim ≤ 3) {t : Bool} (e : t ≡ too_long claim keeping breaking) where
-    pub long_run : t ≡ true → {r : Refusal} → r ≡ refused_at RunLength 0 → Refused r ≡ report_checked claim keeping breaking
+    pub long_run : t ≡ true → {r : Refusal} → r ≡ refused_at RunLength 0 → Err r ≡ report_checked claim keeping breaking
     unfolding report_checked
     long_run f is = rw (is, le-ltb 3 claim h, sym e ∙ f) refl
 
-    pub good_report : t ≡ false → Accepted ≡ report_checked claim keeping breaking
+    pub good_report : t ≡ false → (Ok tt) ≡ report_checked claim keeping breaking
     unfolding report_checked
     good_report f = rw (le-ltb 3 claim h, sym e ∙ f) refl

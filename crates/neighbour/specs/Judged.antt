@@ -1,9 +1,8 @@
 -- WHAT A REPORT IS ANSWERED: the log is followed to its end. Behind the last event the claim and the lengths are checked, then the needed runs are, and then the claim is
 -- compared with the verdict.
-use Rattle.std.specs.Prelude.{ℕ, Bool, true, false, ◌||◌, cond, List, eqb, take}
+use Rattle.std.specs.Prelude.{ℕ, Bool, true, false, ◌||◌, cond, List, eqb, take, Ok, Err}
 use Rattle.answers.specs.declared.Verdict.{Verdict}
-use Rattle.answers.specs.declared.Outcome.{Outcome}
-use Rattle.answers.specs.declared.Outcome.TheVariants as Outcomes
+use Rattle.answers.specs.Results.{Outcome}
 use Rattle.answers.specs.Paper.{number_of}
 use Rattle.text.specs.Number.{width_of}
 use Rattle.plant.specs.declared.Plant.{Plant}
@@ -45,8 +44,8 @@ decided_of claim v Correct second = decided_second claim v second
 
 -- a check, and what comes behind it
 abbrev pub unless_refused : Outcome → Judged → Judged
-unless_refused Outcomes.Accepted j = j
-unless_refused (Outcomes.Refused r) j = Refused r
+unless_refused (Ok _) j = j
+unless_refused (Err r) j = Refused r
 
 -- ---- of n events
 

@@ -1,10 +1,9 @@
 -- A report: a claim, and the runs that are shown (02, l). Which runs a claim needs, and how long these may be.
-use Rattle.std.specs.Prelude.{ℕ, ◌+◌, ◌≤◌, Bool, true, false, ◌&&◌, ◌||◌, cond, List, ◌++◌, ltb, eqb, length, replicate}
+use Rattle.std.specs.Prelude.{ℕ, ◌+◌, ◌≤◌, Bool, true, false, ◌&&◌, ◌||◌, cond, List, ◌++◌, ltb, eqb, length, replicate, Ok, Err}
 use Rattle.io.specs.Counts.{IsPrefixLen}
 use Rattle.words.specs.Over.{over}
 use Rattle.answers.specs.declared.Kind.TheVariants.{Value, RunLength}
-use Rattle.answers.specs.declared.Outcome.{Outcome}
-use Rattle.answers.specs.declared.Outcome.TheVariants.{Accepted, Refused}
+use Rattle.answers.specs.Results.{Outcome}
 use Rattle.answers.specs.Paper.{refused_at}
 use Rattle.neighbour.specs.declared.sent.ShownRun.{ShownRun}
 use Rattle.neighbour.specs.declared.sent.Report.{Report}
@@ -48,4 +47,4 @@ too_long claim keeping breaking = (needs_of claim true && keeping) || (needs_of 
 
 -- 9 for a claim that is no verdict's number, and then 22
 unfoldable pub report_checked : ℕ → Bool → Bool → Outcome
-report_checked claim keeping breaking = cond (ltb 3 claim) (Refused (refused_at Value 0)) (cond (too_long claim keeping breaking) (Refused (refused_at RunLength 0)) Accepted)
+report_checked claim keeping breaking = cond (ltb 3 claim) (Err (refused_at Value 0)) (cond (too_long claim keeping breaking) (Err (refused_at RunLength 0)) (Ok tt))

@@ -12,7 +12,7 @@ ghost use Rattle.neighbour.specs.Report.{Sized, RunSized, report_of};
 ghost use Rattle.neighbour.specs.Judged.{looked_at, confirmed_by, decided_second, decided_of, report_judged, judged_with, judged_after, judged_of};
 
 use advance::lamp;
-use answers::{Outcome, Refusal, Verdict};
+use answers::{Refusal, Verdict};
 use controller::{LogAnswer, Stop, to_end};
 use plant::{Plant, Table};
 use sent::{Report, ShownRun, check_report, needs};
@@ -88,8 +88,8 @@ fn at_end(table: Table, rule: Rule, log: &[u8], last: Monitor, report: Report) -
     let outcome = check_report(report.claim, report.keeping.long, report.breaking.long);
     let shown = lamp(last);
     match outcome {
-        Outcome::Refused(refusal) => Judged::Refused(refusal),
-        Outcome::Accepted => with_verdict(table, rule, log, shown.verdict, report),
+        Err(refusal) => Judged::Refused(refusal),
+        Ok(()) => with_verdict(table, rule, log, shown.verdict, report),
     }
 }
 

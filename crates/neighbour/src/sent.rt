@@ -2,7 +2,7 @@
 ghost use Rattle.std.specs.Prelude.{◌≡◌, ◌+◌, ◌≤◌, ltb, length};
 ghost use Rattle.neighbour.specs.Report.{joined_of, shown_of, needs_of, too_long, report_checked};
 
-use answers::{Kind, Outcome, Refusal, Verdict};
+use answers::{Kind, Refusal, Verdict};
 use writing::put_text;
 
 // A run that is shown: its states, the stem's and then the loop's, and how many they are. Of one that is too long nothing is kept.
@@ -84,14 +84,14 @@ fn too_long(claim: u8, keeping: bool, breaking: bool) -> bool
 }
 
 // 9 for a claim that is no verdict's number, and 22 for a run that is needed and too long.
-pub fn check_report(claim: u8, keeping: bool, breaking: bool) -> Outcome
+pub fn check_report(claim: u8, keeping: bool, breaking: bool) -> Result<(), Refusal>
     ensures { result ≡ report_checked claim keeping breaking }
 {
     if Verdict::OUT_OF_MODEL < claim {
-        return Outcome::Refused(Refusal::at(Kind::Value, 0));
+        return Err(Refusal::at(Kind::Value, 0));
     }
     if too_long(claim, keeping, breaking) {
-        return Outcome::Refused(Refusal::at(Kind::RunLength, 0));
+        return Err(Refusal::at(Kind::RunLength, 0));
     }
-    Outcome::Accepted
+    Ok(())
 }

@@ -1,9 +1,8 @@
 -- What was opened is fit to be followed: its table's parts can be lent, and its live set and its monitor are of its table and its rule.
-use Rattle.std.specs.Prelude.{ℕ, ◌≤◌, ◌≡◌, List, length}
+use Rattle.std.specs.Prelude.{ℕ, ◌≤◌, ◌≡◌, List, length, Ok}
 use Rattle.std.proofs.Common.{ap}
 use Rattle.answers.specs.declared.Refusal.{Refusal}
-use Rattle.answers.specs.declared.Outcome.{Outcome}
-use Rattle.answers.specs.declared.Outcome.TheVariants.{Accepted}
+use Rattle.answers.specs.Results.{Outcome}
 use Rattle.plant.specs.declared.Table.{Table}
 use Rattle.plant.specs.Read.{table_read}
 use Rattle.syntax.proofs.Values.{full_value}
@@ -19,7 +18,7 @@ use Rattle.opened.specs.declared.Opened.{Opened}
 use Rattle.opened.specs.Opened.{not_opened, made, fair_in, label_in, next_in}
 
 -- a rule that was read has all its nodes, and counts at most as many
-module _ (t : Table) (text : List ℕ) (ok : (rule_read t.plant (fair_in t) (label_in t) (next_in t) text).outcome ≡ Accepted) where
+module _ (t : Table) (text : List ℕ) (ok : (rule_read t.plant (fair_in t) (label_in t) (next_in t) text).outcome ≡ Ok tt) where
   abbrev pub read : RuleRead
   read = rule_read t.plant (fair_in t) (label_in t) (next_in t) text
 

@@ -1,9 +1,8 @@
 -- WHAT THE TEXTS OF A TABLE AND A RULE GIVE: the calls that read, prepare and open, one after the other. The first refusal counts.
-use Rattle.std.specs.Prelude.{ℕ, List, take, replicate}
+use Rattle.std.specs.Prelude.{ℕ, List, take, replicate, Ok, Err}
 use Rattle.pairs.specs.declared.Pairs.{Pairs}
 use Rattle.answers.specs.declared.Refusal.{Refusal}
-use Rattle.answers.specs.declared.Outcome.{Outcome}
-use Rattle.answers.specs.declared.Outcome.TheVariants.{Accepted, Refused}
+use Rattle.answers.specs.Results.{Outcome}
 use Rattle.plant.specs.declared.Table.{Table}
 use Rattle.plant.specs.Read.{table_read, no_table}
 use Rattle.syntax.specs.declared.Rule.{Rule}
@@ -16,16 +15,16 @@ use Rattle.opened.specs.declared.Opened.{Opened}
 
 -- beside a refusal stands nothing but zeros
 abbrev pub not_opened : Refusal → Opened
-not_opened r = record { outcome = Refused r; table = no_table; rule = empty_rule; live = record { words = replicate 64 0 }; monitor = no_monitor }
+not_opened r = record { outcome = Err r; table = no_table; rule = empty_rule; live = record { words = replicate 64 0 }; monitor = no_monitor }
 
 -- what was read and made
 abbrev pub made : Table → Rule → Pairs → Monitor → Opened
-made t rule live monitor = record { outcome = Accepted; table = t; rule = rule; live = live; monitor = monitor }
+made t rule live monitor = record { outcome = Ok tt; table = t; rule = rule; live = live; monitor = monitor }
 
 -- a check, and what comes behind it
 abbrev pub or_refused : Outcome → Opened → Opened
-or_refused Accepted o = o
-or_refused (Refused r) o = not_opened r
+or_refused (Ok _) o = o
+or_refused (Err r) o = not_opened r
 
 -- a table lends as many of its parts as it counts
 abbrev pub fair_in : Table → List ℕ

@@ -5,7 +5,7 @@ ghost use Rattle.std.specs.Prelude.{◌≡◌};
 ghost use Rattle.opened.specs.Lent.{Lent};
 ghost use Rattle.opened.specs.Opened.{not_opened, rule_opened, parts_opened, table_opened, opened_of};
 
-use answers::{Outcome, Refusal};
+use answers::Refusal;
 use pairs::Pairs;
 use plant::Table;
 use sides::Monitor;
@@ -14,7 +14,7 @@ use syntax::Rule;
 // Accepted, and what was read and made of the texts; or the refusal, and beside it nothing but zeros.
 #[derive(Clone, Copy)]
 pub struct Opened {
-    pub outcome: Outcome,
+    pub outcome: Result<(), Refusal>,
     pub table: Table,
     pub rule: Rule,
     pub live: Pairs,
@@ -27,7 +27,7 @@ impl Opened {
     {
         let rule = Rule::empty();
         Opened {
-            outcome: Outcome::Refused(refusal),
+            outcome: Err(refusal),
             table: Table::EMPTY,
             rule,
             live: Pairs::EMPTY,
@@ -44,8 +44,8 @@ pub fn open_texts(table: &[u8], rule: &[u8]) -> Opened
     let outcome = read.outcome;
     let table = read.table;
     match outcome {
-        Outcome::Refused(refusal) => Opened::refused(refusal),
-        Outcome::Accepted => with_table(table, rule),
+        Err(refusal) => Opened::refused(refusal),
+        Ok(()) => with_table(table, rule),
     }
 }
 
@@ -77,8 +77,8 @@ fn with_parts(table: Table, fair: &[u64], label: &[u16], next: &[u64], text: &[u
     let outcome = read.outcome;
     let rule = read.rule;
     match outcome {
-        Outcome::Refused(refusal) => Opened::refused(refusal),
-        Outcome::Accepted => with_rule(table, fair, label, next, rule),
+        Err(refusal) => Opened::refused(refusal),
+        Ok(()) => with_rule(table, fair, label, next, rule),
     }
 }
 
@@ -91,12 +91,12 @@ fn with_rule(table: Table, fair: &[u64], label: &[u16], next: &[u64], rule: Rule
     let outcome = prepared.outcome;
     let live = prepared.live;
     match outcome {
-        Outcome::Refused(refusal) => Opened::refused(refusal),
-        Outcome::Accepted => {
+        Err(refusal) => Opened::refused(refusal),
+        Ok(()) => {
             let opened = monitor::open(plant, fair, label, next, rule, live);
             let monitor = opened.monitor;
             Opened {
-                outcome: Outcome::Accepted,
+                outcome: Ok(()),
                 table,
                 rule,
                 live,

@@ -2,7 +2,7 @@
 ghost use Rattle.io.specs.Counts.{IsPrefixLen};
 ghost use Rattle.opened.specs.Lent.{Lent};
 
-use answers::{Outcome, Refusal};
+use answers::Refusal;
 use plant::Table;
 use program::given::{read_plant, read_rule};
 use std::rt::Files;
@@ -12,7 +12,7 @@ use transcript::texts;
 // The table, the rule, and how many bytes of the lent buffer are the log. With a refusal, what was not read is empty.
 #[derive(Clone, Copy)]
 pub struct Given {
-    pub outcome: Outcome,
+    pub outcome: Result<(), Refusal>,
     pub table: Table,
     pub rule: Rule,
     pub len: usize,
@@ -24,8 +24,8 @@ pub fn read_given<R: Files>(rt: &R, folder: &[u8], text: &mut [u8]) -> Given
 {
     let read = read_plant(rt, folder);
     match read.outcome {
-        Outcome::Refused(refusal) => none_of(refusal, read.table, Rule::empty(), text),
-        Outcome::Accepted => with_table(rt, folder, read.table, text),
+        Err(refusal) => none_of(refusal, read.table, Rule::empty(), text),
+        Ok(()) => with_table(rt, folder, read.table, text),
     }
 }
 
@@ -45,8 +45,8 @@ fn with_table<R: Files>(rt: &R, folder: &[u8], table: Table, text: &mut [u8]) ->
         &table.next[..plant.states],
     );
     match read.outcome {
-        Outcome::Refused(refusal) => none_of(refusal, table, read.rule, text),
-        Outcome::Accepted => with_rule(rt, folder, table, read.rule, text),
+        Err(refusal) => none_of(refusal, table, read.rule, text),
+        Ok(()) => with_rule(rt, folder, table, read.rule, text),
     }
 }
 
@@ -72,7 +72,7 @@ fn none_of(refusal: Refusal, table: Table, rule: Rule, text: &[u8]) -> Given
     ensures log { IsPrefixLen result.len text.now }
 {
     Given {
-        outcome: Outcome::Refused(refusal),
+        outcome: Err(refusal),
         table,
         rule,
         len: 0,

@@ -7,7 +7,7 @@ mod play;
 
 ghost use Rattle.std.specs.Prelude.{◌≤◌, length};
 
-use answers::{Outcome, Refusal};
+use answers::Refusal;
 use files::File;
 use monitor::Monitor;
 use plant::Plant;
@@ -16,7 +16,6 @@ use report::Line;
 use std::rt::{Env, Files};
 use syntax::Rule;
 use walk::Lengths;
-use witness::Witnessed;
 
 // The folder that the argument names, or this one.
 pub fn run<R: Env + Files + Print>(rt: &R) {
@@ -32,8 +31,8 @@ fn run_in<R: Files + Print>(rt: &R, folder: &[u8]) {
     let table = given.table;
     let plant = table.plant;
     match given.outcome {
-        Outcome::Refused(refusal) => refuse(rt, refusal),
-        Outcome::Accepted => show_end(
+        Err(refusal) => refuse(rt, refusal),
+        Ok(()) => show_end(
             rt,
             b"",
             plant,
@@ -59,8 +58,8 @@ pub fn show_end<P: Print>(
 ) {
     let end = play::play(plant, fair, label, next, rule, text);
     match end.outcome {
-        Outcome::Refused(refusal) => refuse(to, refusal),
-        Outcome::Accepted => {
+        Err(refusal) => refuse(to, refusal),
+        Ok(()) => {
             show_run(to, name, plant, fair, label, next, rule, end.monitor, true);
             show_run(to, name, plant, fair, label, next, rule, end.monitor, false);
         }
@@ -82,8 +81,8 @@ fn show_run<P: Print>(
     let answer = witness::witness(plant, fair, label, next, rule, monitor, keeps, &mut states);
     put(to, name);
     match answer {
-        Witnessed::Refused(refusal) => show(to, report::no_run_line(keeps, refusal)),
-        Witnessed::Run(lengths) => write_run(to, keeps, &states, lengths),
+        Err(refusal) => show(to, report::no_run_line(keeps, refusal)),
+        Ok(lengths) => write_run(to, keeps, &states, lengths),
     }
 }
 

@@ -1,9 +1,8 @@
 // Where a log ends: the calls, one after the other, and the log by the one loop over its lines.
-ghost use Rattle.std.specs.Prelude.{◌≡◌};
-ghost use Rattle.answers.specs.declared.Outcome.TheVariants.{Accepted};
+ghost use Rattle.std.specs.Prelude.{◌≡◌, Ok};
 ghost use Rattle.live.specs.Prepare.{prepared_of};
 
-use answers::Outcome;
+use answers::Refusal;
 use pairs::Pairs;
 use plant::Plant;
 use sides::Monitor;
@@ -12,7 +11,7 @@ use syntax::Rule;
 // A refusal, or the monitor behind the last event.
 #[derive(Clone, Copy)]
 pub struct End {
-    pub outcome: Outcome,
+    pub outcome: Result<(), Refusal>,
     pub monitor: Monitor,
 }
 
@@ -27,11 +26,11 @@ pub fn play(
 ) -> End {
     let prepared = live::prepare(plant, fair, label, next, rule);
     match prepared.outcome {
-        Outcome::Refused(refusal) => End {
-            outcome: Outcome::Refused(refusal),
+        Err(refusal) => End {
+            outcome: Err(refusal),
             monitor: Monitor::NONE,
         },
-        Outcome::Accepted => from_start(plant, fair, label, next, rule, prepared.live, text),
+        Ok(()) => from_start(plant, fair, label, next, rule, prepared.live, text),
     }
 }
 
@@ -45,7 +44,7 @@ fn from_start(
     live: Pairs,
     text: &[u8],
 ) -> End
-    requires { ((prepared_of plant fair.now label.now next.now rule).outcome ≡ Accepted) × (live ≡ (prepared_of plant fair.now label.now next.now rule).live) }
+    requires { ((prepared_of plant fair.now label.now next.now rule).outcome ≡ Ok tt) × (live ≡ (prepared_of plant fair.now label.now next.now rule).live) }
 {
     let opened = monitor::open(plant, fair, label, next, rule, live);
     let mut verdicts = [0u8; 1];

@@ -1,7 +1,7 @@
 -- What the table's check says: accepted exactly if the table is as `AcceptedTable` says (meaning/specs/Limits); refused by 1 exactly if a count or a length is wrong, by 2 exactly if
 -- these are right and some bit names a state or a proposition beyond the counts.
 use Prim.Native.Nat.{ℕ, zero, suc, ◌+◌, ◌-◌, ◌/◌, ◌^◌, ◌≤◌, ◌<◌}
-use Rattle.std.specs.Prelude.{◌≡◌, refl, ◌↔◌, ◌⊎◌, List, Bool, true, false, leb, ltb, length}
+use Rattle.std.specs.Prelude.{◌≡◌, refl, ◌↔◌, ◌⊎◌, List, Bool, true, false, leb, ltb, length, Ok}
 use Rattle.std.proofs.Common.{sym, ◌∙◌, inl, inr, one-mul, le-div_iff_mul-le, eqb-true, leb-true, ltb-true, ltb-false, eq-eqb, ne_eqb, le-leb, lt-ltb, shr-shr}
 use Rattle.std.proofs.Math.Logic.{⊎_elim}
 use Rattle.std.proofs.Math.Bool.{So}
@@ -20,7 +20,6 @@ use Rattle.words.specs.Tests.{below_cases}
 use Rattle.words.specs.Laws.{bit_above}
 use Rattle.words.specs.Unions.{union_lt, some_member}
 use Rattle.answers.specs.declared.Kind.TheVariants.{Counts, Bits}
-use Rattle.answers.specs.declared.Outcome.TheVariants.{Accepted}
 use Rattle.answers.specs.Chain.{refused_as, differ}
 use Rattle.plant.specs.declared.Plant.{Plant}
 use Rattle.plant.specs.Table.{plant_of, counts_of, bits_of, united, table_outcome, Lengths, Beyond, BitBeyond, in_start, in_fair, in_label, in_next}
@@ -198,10 +197,10 @@ module _ (p : Plant) (fair label next : List ℕ) where
   is_two : So counted → bits_of p fair label next ≡ false → table_outcome p fair label next ≡ refused_as Bits
   is_two e f = rw (e, f)
 
-  is_none : So counted → So (bits_of p fair label next) → table_outcome p fair label next ≡ Accepted
+  is_none : So counted → So (bits_of p fair label next) → table_outcome p fair label next ≡ Ok tt
   is_none e f = rw (e, f)
 
-  pub accepted_exactly : (table_outcome p fair label next ≡ Accepted) ↔ ((length fair ≡ p.just) × AcceptedTable (plant_of p fair label next))
+  pub accepted_exactly : (table_outcome p fair label next ≡ Ok tt) ↔ ((length fair ≡ p.just) × AcceptedTable (plant_of p fair label next))
   accepted_exactly = (
     λ e. tests (λ c. differ _ _ (λ n. omega arith) e (is_one c)) (λ c b. differ _ _ (λ n. omega arith) e (is_two c b))
         (λ c b. there ((counts_exactly p _ _ _).0 c) (bits_within.0 b)),
@@ -250,5 +249,5 @@ module _ (p : Plant) (fair label next : List ℕ) where
 
   -- there is no fourth answer
   pub one_of_three :
-      ((table_outcome p fair label next ≡ Accepted) ⊎ (table_outcome p fair label next ≡ refused_as Counts)) ⊎ (table_outcome p fair label next ≡ refused_as Bits)
+      ((table_outcome p fair label next ≡ Ok tt) ⊎ (table_outcome p fair label next ≡ refused_as Counts)) ⊎ (table_outcome p fair label next ≡ refused_as Bits)
   one_of_three = tests (λ c. inl (inr (is_one c))) (λ c b. inr (is_two c b)) (λ c b. inl (inl (is_none c b)))

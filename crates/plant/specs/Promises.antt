@@ -1,11 +1,10 @@
 -- What is promised of plant tables. The check of a table handed in: `accepted_exactly`, `counts_refused`, `bits_refused` in Check. Here: what reading a text means.
-use Rattle.std.specs.Prelude.{ℕ, ◌^◌, ◌≤◌, ◌<◌, ◌≡◌, refl, ◌↔◌, Bool, true, false, List, length, take, get_or}
+use Rattle.std.specs.Prelude.{ℕ, ◌^◌, ◌≤◌, ◌<◌, ◌≡◌, refl, ◌↔◌, Bool, true, false, List, length, take, get_or, Ok}
 use Rattle.std.proofs.Common.{sym, subst, ap, ◌∙◌, ⊎_elim, lt_of_lt_of_le, arith, pow_mono}
 use Rattle.meaning.specs.Run as run
 use Rattle.meaning.specs.Limits.{AcceptedTable}
 use Rattle.answers.specs.declared.Kind.TheVariants.{Counts, Bits, TableText}
-use Rattle.answers.specs.declared.Outcome.{Outcome}
-use Rattle.answers.specs.declared.Outcome.TheVariants.{Accepted}
+use Rattle.answers.specs.Results.{Outcome}
 use Rattle.answers.specs.Paper.{refused_at}
 use Rattle.answers.specs.Chain.{refused_as, place_of, differ}
 use Rattle.text.specs.Slot.{Slot, matched}
@@ -88,18 +87,18 @@ accepted_formed t a =
     label_wide x l = if_below 8 t.props (λ w. x < 16 ^ w) 4 2 (λ more. wide 16 x a.few_props l) (λ few. wide 8 x few l)
 
 -- and passes the check
-passes : (t : run.Plant) → AcceptedTable t → check_of t ≡ Accepted
+passes : (t : run.Plant) → AcceptedTable t → check_of t ≡ Ok tt
 passes t a = (accepted_exactly (counts_in t) t.fair t.label t.next).1 (refl, a)
 
 -- the text of a table that 01 accepts is read as that table
-pub accepted_read : (t : run.Plant) → AcceptedTable t → table_read (table_text t) ≡ record { outcome = Accepted; table = table_of t }
+pub accepted_read : (t : run.Plant) → AcceptedTable t → table_read (table_text t) ≡ record { outcome = Ok tt; table = table_of t }
 accepted_read t a = text_read_lem t (accepted_formed t a) ∙ ap (λ (o : Outcome). answered o (table_of t)) (passes t a)
 
 -- ---- what each text is answered, and why
 
 -- the text of a table that 01 accepts; of a table with a bit beyond the counts; or no text of the form. Its digits may stand as they are read: made small they are those written
 pub data Reading (s : List ℕ) : Type 0 where
-  accepted : (t : run.Plant) → AcceptedTable t → small_of (table_slots t) s ≡ table_text t → table_read s ≡ record { outcome = Accepted; table = table_of t } → Reading s
+  accepted : (t : run.Plant) → AcceptedTable t → small_of (table_slots t) s ≡ table_text t → table_read s ≡ record { outcome = Ok tt; table = table_of t } → Reading s
   beyond : (t : run.Plant) → WellFormed t → BitBeyond (counts_in t) t.fair t.label t.next → small_of (table_slots t) s ≡ table_text t
       → table_read s ≡ refused_read (refused_at Bits 0) → Reading s
   misformed : (i : ℕ) → RefusedAt table_form s i → table_read s ≡ refused_read (refused_at TableText i) → Reading s
@@ -120,7 +119,7 @@ reading s = ⊎_elim formed (λ p. misformed (fit_of table_form s) p (told (misf
     checked : (t : run.Plant) → WellFormed t → small_of (table_slots t) s ≡ table_text t → table_read s ≡ answered (check_of t) (table_of t) → Reading s
     checked t w f r =
         ⊎_elim
-        (⊎_elim (λ (a : check_of t ≡ Accepted). accepted t ((accepted_exactly (counts_in t) t.fair t.label t.next).0 a).1 f (r ∙ ap (λ (o : Outcome). answered o (table_of t)) a))
+        (⊎_elim (λ (a : check_of t ≡ Ok tt). accepted t ((accepted_exactly (counts_in t) t.fair t.label t.next).0 a).1 f (r ∙ ap (λ (o : Outcome). answered o (table_of t)) a))
         (λ (a : check_of t ≡ refused_as Counts). absurd ((counts_refused (counts_in t) t.fair t.label t.next).0 a (well_counted t w))))
         (λ (a : check_of t ≡ refused_as Bits). beyond t w ((bits_refused (counts_in t) t.fair t.label t.next).0 a).1 f (r ∙ ap (λ (o : Outcome). answered o (table_of t)) a))
         (one_of_three (counts_in t) t.fair t.label t.next)
@@ -135,7 +134,7 @@ outcome_of r = r.outcome
 
 -- an accepted text is, its digits made small, the text of a table that 01 accepts, and this is the table read
 pub accepted_text :
-    (s : List ℕ) → (table_read s).outcome ≡ Accepted
+    (s : List ℕ) → (table_read s).outcome ≡ Ok tt
     → (t : run.Plant) × AcceptedTable t × (small_of (table_slots t) s ≡ table_text t) × ((table_read s).table ≡ table_of t)
 accepted_text s e = by_case (reading s)
   where
@@ -145,7 +144,7 @@ accepted_text s e = by_case (reading s)
     by_case (misformed i p r) = differ _ _ (λ n. omega arith) e (ap outcome_of r)
 
 -- accepted exactly if it is, its digits made small, the text of a table that 01 accepts
-pub accepted_small : (s : List ℕ) → ((table_read s).outcome ≡ Accepted) ↔ ((t : run.Plant) × AcceptedTable t × (small_of (table_slots t) s ≡ table_text t))
+pub accepted_small : (s : List ℕ) → ((table_read s).outcome ≡ Ok tt) ↔ ((t : run.Plant) × AcceptedTable t × (small_of (table_slots t) s ≡ table_text t))
 accepted_small s = (
   λ e. let (t, a, f, r) = accepted_text s e in (t, a, f),
   λ (t, a, e). ap outcome_of (small_read t s (accepted_formed t a) e) ∙ ap (λ (o : Outcome). outcome_of (answered o (table_of t))) (passes t a),
@@ -187,7 +186,7 @@ lent_parts t a =
     refl
 
 -- an accepted table passes the check when its parts are lent
-pub lent_passes : (s : List ℕ) → (table_read s).outcome ≡ Accepted → lent_check (table_read s).table ≡ Accepted
+pub lent_passes : (s : List ℕ) → (table_read s).outcome ≡ Ok tt → lent_check (table_read s).table ≡ Ok tt
 lent_passes s e =
     let (t, a, f, r) = accepted_text s e in
     ap lent_check r ∙ lent_check_lem t a.few_fair a.few_states a.labels a.nexts ∙ (accepted_exactly (counts_in t) t.fair t.label t.next).1 (refl, a)

@@ -1,13 +1,12 @@
 -- What reading a table text gives.
-use Rattle.std.specs.Prelude.{ℕ, ◌+◌, ◌≤◌, ◌<◌, ◌≡◌, refl, true, false, cond, List, [], length, take, drop, get_or, replicate}
+use Rattle.std.specs.Prelude.{ℕ, ◌+◌, ◌≤◌, ◌<◌, ◌≡◌, refl, true, false, cond, List, [], length, take, drop, get_or, replicate, Ok, Err}
 use Rattle.std.proofs.Math.Path.{sym, ap, ap₂}
 use Rattle.std.proofs.Common.{◌∙◌, arith, ext_get_or, get_or-take, length-take}
 use Rattle.meaning.specs.Run as run
 use Rattle.meaning.specs.Limits.{most_props}
 use Rattle.answers.specs.declared.Kind.TheVariants.{TableText}
 use Rattle.answers.specs.declared.Refusal.{Refusal}
-use Rattle.answers.specs.declared.Outcome.{Outcome}
-use Rattle.answers.specs.declared.Outcome.TheVariants.{Accepted, Refused}
+use Rattle.answers.specs.Results.{Outcome}
 use Rattle.answers.specs.Paper.{refused_at}
 use Rattle.text.specs.Slot.{word, matched}
 use Rattle.words.specs.Lists.{length_list, list_at}
@@ -43,12 +42,12 @@ no_table =
 
 -- with a refusal the table beside it is empty, so nothing of the text is given away (01, Refusal numbers)
 abbrev pub refused_read : Refusal → TableRead
-refused_read r = record { outcome = Refused r; table = no_table }
+refused_read r = record { outcome = Err r; table = no_table }
 
 -- the table where it is accepted
 abbrev pub answered : Outcome → Table → TableRead
-answered Accepted t = record { outcome = Accepted; table = t }
-answered (Refused r) t = refused_read r
+answered (Ok _) t = record { outcome = Ok tt; table = t }
+answered (Err r) t = refused_read r
 
 -- what the check of a table says
 abbrev pub check_of : run.Plant → Outcome

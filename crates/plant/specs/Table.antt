@@ -1,5 +1,5 @@
 -- What a table handed in is refused for.
-use Rattle.std.specs.Prelude.{ℕ, ◌^◌, ◌≤◌, ◌<◌, ◌≡◌, List, Bool, ◌&&◌, cond, eqb, leb, ltb, length, get_or}
+use Rattle.std.specs.Prelude.{ℕ, ◌^◌, ◌≤◌, ◌<◌, ◌≡◌, List, Bool, ◌&&◌, cond, eqb, leb, ltb, length, get_or, Ok}
 use Rattle.std.proofs.Math.Bool.{So}
 use Rattle.std.specs.Int.Bits.{bit_or}
 use Rattle.meaning.specs.Bit.{bit}
@@ -7,8 +7,7 @@ use Rattle.meaning.specs.Limits.{most_props, most_states, most_fair}
 use Rattle.meaning.specs.Run as run
 use Rattle.words.specs.Below.{union_below}
 use Rattle.answers.specs.declared.Kind.TheVariants.{Counts, Bits}
-use Rattle.answers.specs.declared.Outcome.{Outcome}
-use Rattle.answers.specs.declared.Outcome.TheVariants.{Accepted}
+use Rattle.answers.specs.Results.{Outcome}
 use Rattle.answers.specs.Chain.{refused_as}
 use Rattle.plant.specs.declared.Plant.{Plant}
 
@@ -36,7 +35,7 @@ bits_of p fair label next = ltb (bit_or (bit_or p.start (united fair)) (united n
 
 -- 1 for the counts and lengths, 2 for the bits, and else accepted
 abbrev pub table_outcome : Plant → List ℕ → List ℕ → List ℕ → Outcome
-table_outcome p fair label next = cond (counts_of p (length fair) (length label) (length next)) (cond (bits_of p fair label next) Accepted (refused_as Bits)) (refused_as Counts)
+table_outcome p fair label next = cond (counts_of p (length fair) (length label) (length next)) (cond (bits_of p fair label next) (Ok tt) (refused_as Bits)) (refused_as Counts)
 
 -- ---- what a table must be (01, The plant table, and 01, Refusal numbers)
 

@@ -6,7 +6,7 @@ mod table_text;
 ghost use Rattle.std.specs.Prelude.{◌≡◌, ◌^◌, ◌≤◌, ltb};
 ghost use Rattle.plant.specs.Table.{united, counts_of, bits_of, table_outcome, InRange};
 
-use answers::{Kind, Outcome, Refusal};
+use answers::{Kind, Refusal};
 pub use table_text::read_table;
 
 // State k has the weight 2^k in a set of states.
@@ -53,7 +53,7 @@ impl Table {
 
 #[derive(Clone, Copy, Debug, PartialEq, Eq)]
 pub struct TableRead {
-    pub outcome: Outcome,
+    pub outcome: Result<(), Refusal>,
     pub table: Table,
 }
 
@@ -103,14 +103,14 @@ fn bits_fit(plant: Plant, fair: &[u64], label: &[u16], next: &[u64]) -> bool
 }
 
 // The check of a table handed in: 1 before 2.
-pub fn check_table(plant: Plant, fair: &[u64], label: &[u16], next: &[u64]) -> Outcome
+pub fn check_table(plant: Plant, fair: &[u64], label: &[u16], next: &[u64]) -> Result<(), Refusal>
     ensures { result ≡ table_outcome plant fair.now label.now next.now }
 {
     if !counts_fit(plant, fair.len(), label.len(), next.len()) {
-        return Outcome::Refused(Refusal::at(Kind::Counts, 0));
+        return Err(Refusal::at(Kind::Counts, 0));
     }
     if !bits_fit(plant, fair, label, next) {
-        return Outcome::Refused(Refusal::at(Kind::Bits, 0));
+        return Err(Refusal::at(Kind::Bits, 0));
     }
-    Outcome::Accepted
+    Ok(())
 }

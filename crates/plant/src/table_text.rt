@@ -5,7 +5,7 @@ ghost use Rattle.plant.specs.Lines.{IsCountLine, IsHexLine, IsFair, IsRows};
 ghost use Rattle.plant.specs.Read.{lent_check, refused_read, IsParsed, table_read};
 
 use crate::{Plant, Table, TableRead, check_table};
-use answers::{Kind, Outcome, Refusal};
+use answers::{Kind, Refusal};
 use text::{Cursor, Reading, count, expect, expect_all, expect_count, hex, width_of};
 
 // The fairness sets, and the cursor behind them.
@@ -121,7 +121,7 @@ fn parse(text: &[u8]) -> Parsed
 }
 
 // The check of a table that was read, its parts lent.
-fn check_read(table: Table) -> Outcome
+fn check_read(table: Table) -> Result<(), Refusal>
     requires { (table.plant.just ≤ 4) × (table.plant.states ≤ 64) }
     ensures { result ≡ lent_check table }
 {
@@ -138,7 +138,7 @@ fn refused(refusal: Refusal) -> TableRead
     ensures { result ≡ refused_read refusal }
 {
     TableRead {
-        outcome: Outcome::Refused(refusal),
+        outcome: Err(refusal),
         table: Table::EMPTY,
     }
 }
@@ -153,7 +153,7 @@ pub fn read_table(text: &[u8]) -> TableRead
     }
     let outcome = check_read(table);
     match outcome {
-        Outcome::Accepted => TableRead { outcome, table },
-        Outcome::Refused(refusal) => refused(refusal),
+        Ok(()) => TableRead { outcome, table },
+        Err(refusal) => refused(refusal),
     }
 }

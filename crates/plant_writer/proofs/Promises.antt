@@ -1,16 +1,14 @@
 -- More of specs/Promises. What is promised of writing a table. The contract of write_table is two equations: it answers `write_answer`, and leaves `write_buffer` in the buffer (Writing).
-use Rattle.std.specs.Prelude.{ℕ, ◌≤◌, ◌≡◌, List, map, length, take}
+use Rattle.std.specs.Prelude.{ℕ, ◌≤◌, ◌≡◌, List, map, length, take, Ok}
 use Rattle.std.proofs.Common.{sym, ap, ◌∙◌, arith}
 use Rattle.std.proofs.lemmas.List.{length-map}
 use Rattle.words.specs.Over.{over}
-use Rattle.answers.specs.declared.Outcome.TheVariants.{Accepted}
 use Rattle.text.specs.Place.{fills_small}
 use Rattle.plant.specs.declared.Table.{Table}
 use Rattle.plant.specs.Table.{plant_of}
 use Rattle.plant.specs.Read.{table_read}
 use Rattle.plant.specs.Written.{table_slots, table_text}
 use Rattle.plant.specs.Promises.{accepted_text, lent_parts, lent_passes}
-use Rattle.plant_writer.specs.declared.Wrote.TheVariants.{Text}
 use Rattle.plant_writer.specs.Lower.{lower}
 use Rattle.plant_writer.proofs.Lower.{table_lowered}
 use Rattle.plant_writer.specs.Writing.{fitting}
@@ -18,8 +16,8 @@ use Rattle.plant_writer.specs.Promises.{back_answer, back_buffer, table}
 
 -- a text that is accepted comes back byte for byte, its digits small
 pub accepted_back :
-    (s old : List ℕ) → (table_read s).outcome ≡ Accepted → length s ≤ length old
-    → (back_answer (table_read s).table old ≡ Text (record { bytes = length s })) × (back_buffer (table_read s).table old ≡ over (map lower s) old)
+    (s old : List ℕ) → (table_read s).outcome ≡ Ok tt → length s ≤ length old
+    → (back_answer (table_read s).table old ≡ Ok (record { bytes = length s })) × (back_buffer (table_read s).table old ≡ over (map lower s) old)
 accepted_back s old e room =
     let (t, a, f, r) = accepted_text s e in
     let x : Table = (table_read s).table in
@@ -33,5 +31,5 @@ accepted_back s old e room =
     (sym done.0, sym done.1)
 
 -- a text whose digits are small is written back as it is
-pub small_back : (s old : List ℕ) → (table_read s).outcome ≡ Accepted → length s ≤ length old → map lower s ≡ s → back_buffer (table_read s).table old ≡ over s old
+pub small_back : (s old : List ℕ) → (table_read s).outcome ≡ Ok tt → length s ≤ length old → map lower s ≡ s → back_buffer (table_read s).table old ≡ over s old
 small_back s old e room same = (accepted_back s old e room).1 ∙ ap (λ (l : List ℕ). over l old) same

@@ -1,5 +1,5 @@
 -- What is promised of writing a table. The contract of write_table is two equations: it answers `write_answer`, and leaves `write_buffer` in the buffer (Writing).
-use Rattle.std.specs.Prelude.{ℕ, ◌≤◌, ◌≡◌, refl, Bool, true, false, List, leb, length, take, drop}
+use Rattle.std.specs.Prelude.{ℕ, ◌≤◌, ◌≡◌, refl, Bool, true, false, List, leb, length, take, drop, Result, Ok, Err}
 use Rattle.std.proofs.Common.{sym, ap, ◌∙◌, arith, leb-true, length-append, length-drop, take_at, drop_at}
 use Rattle.std.proofs.lemmas.Bool.{false≢true}
 use Rattle.meaning.specs.Run as run
@@ -7,9 +7,7 @@ use Rattle.meaning.specs.Limits.{AcceptedTable}
 use Rattle.words.specs.Over.{over}
 use Rattle.answers.specs.declared.Kind.TheVariants.{Room}
 use Rattle.answers.specs.declared.Refusal.{Refusal}
-use Rattle.answers.specs.declared.Outcome.{Outcome}
-use Rattle.answers.specs.declared.Outcome.TheVariants.{Accepted}
-use Rattle.answers.specs.declared.Outcome.TheVariants as Outcomes
+use Rattle.answers.specs.Results.{Outcome}
 use Rattle.answers.specs.Chain.{unless, chain_accepts, unless_accepts}
 use Rattle.plant.specs.declared.Plant.{Plant}
 use Rattle.plant.specs.declared.Table.{Table}
@@ -19,19 +17,17 @@ use Rattle.plant.specs.Read.{table_of, table_read, take_padded}
 use Rattle.plant.specs.Written.{table_text}
 use Rattle.plant.specs.Promises.{accepted_formed, accepted_read}
 use Rattle.plant_writer.specs.declared.Length.{Length}
-use Rattle.plant_writer.specs.declared.Wrote.{Wrote}
-use Rattle.plant_writer.specs.declared.Wrote.TheVariants.{Text, Refused}
 use Rattle.plant_writer.specs.Longest.{at_most_2477}
 use Rattle.plant_writer.specs.Writing.{write_answer, write_buffer, write_outcome, told_by, left_by}
 
 -- which of the two an answer is, and the bytes that it tells
-abbrev is_text : Wrote → Bool
-is_text (Text l) = true
-is_text (Refused r) = false
+abbrev is_text : Result Length Refusal → Bool
+is_text (Ok l) = true
+is_text (Err r) = false
 
-abbrev bytes_in : Wrote → ℕ
-bytes_in (Text l) = l.bytes
-bytes_in (Refused r) = 0
+abbrev bytes_in : Result Length Refusal → ℕ
+bytes_in (Ok l) = l.bytes
+bytes_in (Err r) = 0
 
 -- a table that was read has these counts, and these parts where a caller lends them as its counts say
 pub record SameTable (p : Plant) (fair label next : List ℕ) (t : Table) : Type 0 where
@@ -59,13 +55,13 @@ module _ (p : Plant) (fair label next old : List ℕ) where
     pub beyond : drop l.bytes after ≡ drop l.bytes old
     pub size : length after ≡ length old
 
-  module _ (l : Length) (e : write_answer p fair label next old ≡ Text l) where
-    is_accepted_lem : write_outcome p fair label next old ≡ Accepted
+  module _ (l : Length) (e : write_answer p fair label next old ≡ Ok l) where
+    is_accepted_lem : write_outcome p fair label next old ≡ Ok tt
     is_accepted_lem = by_case (write_outcome p fair label next old) e
       where
-        by_case : (o : Outcome) → told_by p fair label next old o ≡ Text l → o ≡ Accepted
-        by_case Accepted e = refl
-        by_case (Outcomes.Refused r) e = absurd (false≢true (ap is_text e))
+        by_case : (o : Outcome) → told_by p fair label next old o ≡ Ok l → o ≡ Ok tt
+        by_case (Ok _) e = refl
+        by_case (Err r) e = absurd (false≢true (ap is_text e))
 
     pub written : IsWritten l
     written =
@@ -87,7 +83,7 @@ module _ (p : Plant) (fair label next old : List ℕ) where
     -- WHAT WAS WRITTEN IS READ AS THE TABLE HANDED IN (02, b)
 
     -- it is accepted
-    pub written_read : table_read (take l.bytes after) ≡ record { outcome = Accepted; table = table_of table }
+    pub written_read : table_read (take l.bytes after) ≡ record { outcome = Ok tt; table = table_of table }
     written_read = ap table_read written.text ∙ accepted_read table written.accepted
 
     -- and the table read is the one handed in
@@ -104,17 +100,17 @@ module _ (p : Plant) (fair label next old : List ℕ) where
         few_fair f = omega (arith, f, written.accepted.few_fair)
 
   -- a refusal leaves all bytes as they were
-  pub refused_leaves : (r : Refusal) → write_answer p fair label next old ≡ Refused r → after ≡ old
+  pub refused_leaves : (r : Refusal) → write_answer p fair label next old ≡ Err r → after ≡ old
   refused_leaves r e = by_case (write_outcome p fair label next old) e
     where
-      by_case : (o : Outcome) → told_by p fair label next old o ≡ Refused r → left_by p fair label next old o ≡ old
-      by_case Accepted e = absurd (false≢true (sym (ap is_text e)))
-      by_case (Outcomes.Refused q) e = refl
+      by_case : (o : Outcome) → told_by p fair label next old o ≡ Err r → left_by p fair label next old o ≡ old
+      by_case (Ok _) e = absurd (false≢true (sym (ap is_text e)))
+      by_case (Err q) e = refl
 
 -- ---- A TEXT THAT IS ACCEPTED COMES BACK BYTE FOR BYTE, ITS DIGITS SMALL
 
 -- the table of a text, its parts lent as its counts say, and written
-abbrev pub back_answer : Table → List ℕ → Wrote
+abbrev pub back_answer : Table → List ℕ → Result Length Refusal
 back_answer t old = write_answer t.plant (take t.plant.just t.fair) (take t.plant.states t.label) (take t.plant.states t.next) old
 
 abbrev pub back_buffer : Table → List ℕ → List ℕ

@@ -1,13 +1,11 @@
 -- What writing a table answers, and what it leaves in the buffer.
-use Rattle.std.specs.Prelude.{ℕ, ◌≤◌, ◌<◌, ◌≡◌, List, leb, length}
+use Rattle.std.specs.Prelude.{ℕ, ◌≤◌, ◌<◌, ◌≡◌, List, leb, length, Result, Ok, Err}
 use Rattle.std.proofs.Common.{sym, ap, ◌∙◌, arith, le-leb}
 use Rattle.std.proofs.lemmas.Bool.{lt-leb}
 use Rattle.words.specs.Over.{over}
 use Rattle.answers.specs.declared.Kind.TheVariants.{Room}
 use Rattle.answers.specs.declared.Refusal.{Refusal}
-use Rattle.answers.specs.declared.Outcome.{Outcome}
-use Rattle.answers.specs.declared.Outcome.TheVariants.{Accepted}
-use Rattle.answers.specs.declared.Outcome.TheVariants as Outcomes
+use Rattle.answers.specs.Results.{Outcome}
 use Rattle.answers.specs.Paper.{refused_at}
 use Rattle.answers.specs.Chain.{and_then, unless}
 use Rattle.plant.specs.declared.Plant.{Plant}
@@ -17,11 +15,10 @@ use Rattle.plant.specs.Written.{table_text}
 use Rattle.plant.specs.Promises.{accepted_formed}
 use Rattle.plant_writer.specs.Longest.{at_most_2477}
 use Rattle.plant_writer.specs.Pieces.{Writable}
-use Rattle.plant_writer.specs.declared.Wrote.{Wrote}
-use Rattle.plant_writer.specs.declared.Wrote.TheVariants.{Text, Refused}
+use Rattle.plant_writer.specs.declared.Length.{Length}
 
 -- an accepted table can be written where there is room for the longest text
-pub writable : (p : Plant) (fair label next : List ℕ) → table_outcome p fair label next ≡ Accepted → (room : ℕ) → room ≡ 2477 → Writable p fair label next room
+pub writable : (p : Plant) (fair label next : List ℕ) → table_outcome p fair label next ≡ Ok tt → (room : ℕ) → room ≡ 2477 → Writable p fair label next room
 writable p fair label next e room is =
     let (f, a) = (accepted_exactly p fair label next).0 e in
     record {
@@ -43,17 +40,17 @@ module _ (p : Plant) (fair label next old : List ℕ) where
   write_outcome = and_then (table_outcome p fair label next) (unless (leb (length its_text) (length old)) Room)
 
   -- the refusal, or how many bytes the text has
-  abbrev pub told_by : Outcome → Wrote
-  told_by Accepted = Text (record { bytes = length its_text })
-  told_by (Outcomes.Refused r) = Refused r
+  abbrev pub told_by : Outcome → Result Length Refusal
+  told_by (Ok _) = Ok (record { bytes = length its_text })
+  told_by (Err r) = Err r
 
-  abbrev pub write_answer : Wrote
+  abbrev pub write_answer : Result Length Refusal
   write_answer = told_by write_outcome
 
   -- the text over the buffer's start where it is written, and else the buffer as it was
   abbrev pub left_by : Outcome → List ℕ
-  left_by Accepted = over its_text old
-  left_by (Outcomes.Refused r) = old
+  left_by (Ok _) = over its_text old
+  left_by (Err r) = old
 
   abbrev pub write_buffer : List ℕ
   write_buffer = left_by write_outcome
@@ -63,20 +60,20 @@ module _ (p : Plant) (fair label next old : List ℕ) where
   by_outcome : (o : Outcome) → write_outcome ≡ o → (told_by o ≡ write_answer) × (left_by o ≡ write_buffer)
   by_outcome o e = (ap told_by (sym e), ap left_by (sym e))
 
-  pub no_table : (r : Refusal) → table_outcome p fair label next ≡ Outcomes.Refused r → (Refused r ≡ write_answer) × (old ≡ write_buffer)
-  no_table r e = by_outcome (Outcomes.Refused r) (ap (λ (o : Outcome). and_then o (unless (leb (length its_text) (length old)) Room)) e)
+  pub no_table : (r : Refusal) → table_outcome p fair label next ≡ Err r → (Err r ≡ write_answer) × (old ≡ write_buffer)
+  no_table r e = by_outcome (Err r) (ap (λ (o : Outcome). and_then o (unless (leb (length its_text) (length old)) Room)) e)
 
-  module _ (e : table_outcome p fair label next ≡ Accepted) where
-    pub no_room : length old < length its_text → (r : Refusal) → r ≡ refused_at Room 0 → (Refused r ≡ write_answer) × (old ≡ write_buffer)
+  module _ (e : table_outcome p fair label next ≡ Ok tt) where
+    pub no_room : length old < length its_text → (r : Refusal) → r ≡ refused_at Room 0 → (Err r ≡ write_answer) × (old ≡ write_buffer)
     no_room h r is =
-        let o : write_outcome ≡ Outcomes.Refused r = ap (λ (o : Outcome). and_then o (unless (leb (length its_text) (length old)) Room)) e
-        ∙ ap (λ b. unless b Room) (lt-leb (length its_text) (length old) h) ∙ ap Outcomes.Refused (sym is) in
-        by_outcome (Outcomes.Refused r) o
+        let o : write_outcome ≡ Err r = ap (λ (o : Outcome). and_then o (unless (leb (length its_text) (length old)) Room)) e
+        ∙ ap (λ b. unless b Room) (lt-leb (length its_text) (length old) h) ∙ ap Err (sym is) in
+        by_outcome (Err r) o
 
     pub fitting : length its_text ≤ length old → (n : ℕ) (now : List ℕ) → n ≡ length its_text → now ≡ over its_text old
-        → (Text (record { bytes = n }) ≡ write_answer) × (now ≡ write_buffer)
+        → (Ok (record { bytes = n }) ≡ write_answer) × (now ≡ write_buffer)
     fitting h n now long laid =
-        let o : write_outcome ≡ Accepted = ap (λ (o : Outcome). and_then o (unless (leb (length its_text) (length old)) Room)) e
+        let o : write_outcome ≡ (Ok tt) = ap (λ (o : Outcome). and_then o (unless (leb (length its_text) (length old)) Room)) e
         ∙ ap (λ b. unless b Room) (le-leb (length its_text) (length old) h) in
-        let r = by_outcome Accepted o in
-        (ap (λ (k : ℕ). Text (record { bytes = k })) long ∙ r.0, laid ∙ r.1)
+        let r = by_outcome (Ok tt) o in
+        (ap (λ (k : ℕ). Ok (record { bytes = k })) long ∙ r.0, laid ∙ r.1)

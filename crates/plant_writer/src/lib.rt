@@ -6,7 +6,7 @@ mod lines;
 ghost use Rattle.std.specs.Prelude.{◌≡◌};
 ghost use Rattle.plant_writer.specs.Writing.{write_answer, write_buffer};
 
-use answers::{Kind, Outcome, Refusal};
+use answers::{Kind, Refusal};
 use plant::Plant;
 
 // How many bytes were written.
@@ -29,12 +29,6 @@ impl Length {
     }
 }
 
-#[derive(Clone, Copy)]
-pub enum Wrote {
-    Text(Length),
-    Refused(Refusal),
-}
-
 // Writes a table at the buffer's start: refusals 1, 2 and 11. Other bytes stay, and all of them with a refusal.
 // The text is made apart, so how long it is need not be worked out beforehand.
 pub fn write_table(
@@ -43,20 +37,16 @@ pub fn write_table(
     label: &[u16],
     next: &[u64],
     buffer: &mut [u8],
-) -> Wrote
+) -> Result<Length, Refusal>
     ensures answer { result ≡ write_answer plant fair.now label.now next.now buffer.old }
     ensures buffer { buffer.new ≡ write_buffer plant fair.now label.now next.now buffer.old }
 {
-    match plant::check_table(plant, fair, label, next) {
-        Outcome::Refused(refusal) => Wrote::Refused(refusal),
-        Outcome::Accepted => {
-            let mut text = [0u8; Length::MOST];
-            let bytes = lines::put_table(&mut text, plant, fair, label, next);
-            if buffer.len() < bytes {
-                return Wrote::Refused(Refusal::at(Kind::Room, 0));
-            }
-            writing::put_text(buffer, 0, &text[..bytes]);
-            Wrote::Text(Length { bytes })
-        }
+    plant::check_table(plant, fair, label, next)?;
+    let mut text = [0u8; Length::MOST];
+    let bytes = lines::put_table(&mut text, plant, fair, label, next);
+    if buffer.len() < bytes {
+        return Err(Refusal::at(Kind::Room, 0));
     }
+    writing::put_text(buffer, 0, &text[..bytes]);
+    Ok(Length { bytes })
 }

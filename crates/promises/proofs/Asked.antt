@@ -3,7 +3,7 @@
 use mathlib.Core.Logic.Iff
 use Prim.Native.Nat.{ℕ, ◌+◌, ◌^◌, ◌≤◌, ◌<◌}
 use Rattle.std.proofs.Common.{arith, subst, ◌∙◌, inr}
-use Rattle.std.specs.Prelude.{◌≡◌, ◌↔◌, false, length}
+use Rattle.std.specs.Prelude.{◌≡◌, ◌↔◌, false, length, Result, Ok, Err}
 use Rattle.std.proofs.Math.Path.{refl, sym, ap}
 use Rattle.std.proofs.Math.Bool.{Bool, true, not}
 use mathlib.Core.List.{List, [], ◌∷◌}
@@ -29,8 +29,7 @@ use Rattle.model.proofs.Log as log_laws
 use Rattle.model.specs.Witness.{has_live}
 use Rattle.model.proofs.Witness.{witness_says}
 use Rattle.answers.specs.declared.Kind.TheVariants.{NoPair}
-use Rattle.answers.specs.declared.Outcome.{Outcome}
-use Rattle.answers.specs.declared.Outcome.TheVariants.{Accepted, Refused}
+use Rattle.answers.specs.Results.{Outcome}
 use Rattle.answers.specs.Paper.{refused_at}
 use Rattle.answers.specs.Chain.{refused_as, differ, unless, chain_accepts, chain_refuses, unless_accepts, unless_refuses}
 use Rattle.plant.specs.declared.Plant.{Plant}
@@ -46,8 +45,8 @@ use Rattle.watching.specs.Watching as watching
 use Rattle.watching.specs.Filled.{filled}
 use Rattle.watching.specs.Watching.{TakenFrom, AllTaken, taken_ones, event_says}
 use Rattle.watching.proofs.Watching.{after_any, after_model}
-use Rattle.witness.specs.declared.Witnessed.{Witnessed}
-use Rattle.witness.specs.declared.Witnessed.TheVariants as Answers
+use Rattle.walk.specs.declared.Lengths.{Lengths}
+use Rattle.answers.specs.declared.Refusal.{Refusal}
 use Rattle.witness.specs.Calls.{Answered, asked_of, witness_outcome}
 use Rattle.promises.specs.Demand.{witness_goes_on}
 use Rattle.promises.specs.Asked.{GoesOn}
@@ -106,10 +105,10 @@ module _ (p : Plant) (fair label next : List ℕ) (rule : Rule) (given : Input p
 
       -- a buffer of 01's room
       module _ (room : ℕ) (enough : witness_room ≤ room) where
-        abbrev asked : asked_of p fair label next rule m room ≡ Accepted
+        abbrev asked : asked_of p fair label next rule m room ≡ Ok tt
         asked = of_asked.asked p fair label next rule given es taken b room enough
 
-        accepts : (witness_outcome p fair label next rule m b room ≡ Accepted) ↔ Possible T f h b
+        accepts : (witness_outcome p fair label next rule m b room ≡ Ok tt) ↔ Possible T f h b
         unfolding witness_outcome
         accepts =
             Iff.trans (chain_accepts (asked_of p fair label next rule m room) (unless (has_live T f (model.side (model_of m) b)) NoPair)) (
@@ -118,21 +117,21 @@ module _ (p : Plant) (fair label next : List ℕ) (rule : Rule) (given : Input p
             )
 
         -- the call is accepted exactly if there is a run of the asked kind
-        pub witness_exactly : (witness_outcome p fair label next rule m b room ≡ Accepted) ↔ Possible T f h b
+        pub witness_exactly : (witness_outcome p fair label next rule m b room ≡ Ok tt) ↔ Possible T f h b
         witness_exactly = accepts
 
         -- and refused by 13 exactly if there is none
         pub thirteen_exactly : (witness_outcome p fair label next rule m b room ≡ refused_as NoPair) ↔ (Possible T f h b → ⊥)
         unfolding witness_outcome
         thirteen_exactly = (
-          λ e q. differ Accepted (refused_as NoPair) (λ n. omega arith) (accepts.1 q) e,
+          λ e q. differ (Ok tt) (refused_as NoPair) (λ n. omega arith) (accepts.1 q) e,
           λ none.
               (chain_refuses (asked_of p fair label next rule m room) (unless (has_live T f (model.side (model_of m) b)) NoPair) (refused_at NoPair 0)).1
               (inr (asked, (unless_refuses _ NoPair).1 (not_so _ (λ so. none (held_live.0 so))))),
         )
 
       -- so by its contract, of any buffer of that room: what it answers and what the buffer then holds
-      module _ (before bytes : List ℕ) (enough : witness_room ≤ length before) (r : Witnessed) (answered : Answered p fair label next rule m b before bytes r) where
+      module _ (before bytes : List ℕ) (enough : witness_room ≤ length before) (r : Result Lengths Refusal) (answered : Answered p fair label next rule m b before bytes r) where
         abbrev As : Outcome → Type 0
         As = of_asked.As p fair label next rule given es taken b before bytes enough r answered
 
@@ -142,7 +141,7 @@ module _ (p : Plant) (fair label next : List ℕ) (rule : Rule) (given : Input p
             let (walk, long, c) = witness_goes_on p fair label next rule given es taken b s.lasso s.witness in
             record {
               lasso = s.lasso;
-              lengths = is ∙ ap Answers.Run (λ i. record { stem = sym s.stem_is i; turn = sym s.turn_is i });
+              lengths = is ∙ ap Ok (λ i. record { stem = sym s.stem_is i; turn = sym s.turn_is i });
               written = s.bytes;
               short_stem = s.witness.stem;
               short_loop = s.witness.loop;
@@ -151,7 +150,7 @@ module _ (p : Plant) (fair label next : List ℕ) (rule : Rule) (given : Input p
               chosen = c;
             }
 
-        pub none_refused : (Possible T f h b → ⊥) → (r ≡ Answers.Refused (refused_at NoPair 0)) × (bytes ≡ before)
+        pub none_refused : (Possible T f h b → ⊥) → (r ≡ Err (refused_at NoPair 0)) × (bytes ≡ before)
         none_refused none = subst As ((thirteen_exactly (length before) enough).1 none) answered
 
   -- before any event a look shows what `open` showed
@@ -175,8 +174,8 @@ module _ (p : Plant) (fair label next : List ℕ) (rule : Rule) (given : Input p
       From seen n es = TakenFrom p fair label next rule seen n (taken_ones p fair label next rule seen n es)
 
       by : From true (number_of e.num expected + 1) es → From seen expected es → (o : Outcome) → event_outcome e p.props seen expected ≡ o → From seen expected (e ∷ es)
-      by behind other Accepted ok = rw ok ((event_says p fair label next rule given e seen expected).0 ok, behind)
-      by behind other (Refused r) bad = rw bad other
+      by behind other (Ok _) ok = rw ok ((event_says p fair label next rule given e seen expected).0 ok, behind)
+      by behind other (Err r) bad = rw bad other
 
   -- whatever events came, the monitor is the one behind those accepted. So what is said above holds of it
   pub monitor_any : (es : List Event) → (watching.after p fair label next rule es).monitor ≡ (watching.after p fair label next rule (ones es)).monitor

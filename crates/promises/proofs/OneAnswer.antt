@@ -1,7 +1,7 @@
 -- No call has a choice: two results that its contract allows are equal, and so are the bytes that they leave in what was lent.
 -- Said of the contracts themselves. `Learnt` is what the kit reads from the `ensures` of a call: a claim about its arguments x, its result r and the lent things at exit, here u. Who
 -- weakens an `ensures` breaks a line here. In u a call's parameters stand in their order, and `now` is what a reference then refers to.
-use Rattle.std.specs.Prelude.{ℕ, ◌≡◌, refl, Bool, List, length}
+use Rattle.std.specs.Prelude.{ℕ, ◌≡◌, refl, Bool, List, length, Result, Ok, Err}
 use Rattle.std.proofs.Common.{sym, subst, ◌∙◌}
 use base.Logic.{emp}
 use contract.Lifetimes.{Lfts}
@@ -13,8 +13,7 @@ use Rattle.meaning.specs.Formula.{Formula}
 use Rattle.meaning.specs.Run as run
 use Rattle.model.specs.Monitor as model
 use Rattle.answers.specs.declared.Refusal.{Refusal}
-use Rattle.answers.specs.declared.Outcome.{Outcome}
-use Rattle.answers.specs.declared.Outcome.TheVariants.{Accepted, Refused}
+use Rattle.answers.specs.Results.{Outcome}
 use Rattle.plant.specs.Table.{plant_of}
 use Rattle.syntax.specs.Value.{formula_of}
 use Rattle.sides.specs.Held.{model_of}
@@ -22,8 +21,6 @@ use Rattle.monitor.specs.declared.Watched.{Watched}
 use Rattle.monitor.specs.Calls.{step_call}
 use Rattle.walk.specs.declared.Lengths.{Lengths}
 use Rattle.walk.specs.Shows.{Shows}
-use Rattle.witness.specs.declared.Witnessed.{Witnessed}
-use Rattle.witness.specs.declared.Witnessed.TheVariants as Answers
 use Rattle.witness.specs.Calls.{AnsweredAs, witness_outcome}
 use Rattle.plant.proofs.read_table.Reads as read_table
 use Rattle.plant.proofs.check_table.Reads as check_table
@@ -188,12 +185,12 @@ module _ (κs : Lfts 4) (x : ArgsD call.signature κs) where
   abbrev pub checked : Outcome
   checked = witness_outcome x.0 x.1.0.now x.1.1.0.now x.1.1.1.0.now x.1.1.1.1.0 x.1.1.1.1.1.0 keeps (length before)
 
-  module _ (r : Witnessed) (u : AtExit call.ended κs) (e : witness.Learnt κs x r u) where
+  module _ (r : Result Lengths Refusal) (u : AtExit call.ended κs) (e : witness.Learnt κs x r u) where
     abbrev after : List ℕ
     after = u.1.1.1.1.1.1.1.0.now
 
-    pub witness_refused : (refusal : Refusal) → checked ≡ Refused refusal → (r ≡ Answers.Refused refusal) × (after ≡ before)
+    pub witness_refused : (refusal : Refusal) → checked ≡ Err refusal → (r ≡ Err refusal) × (after ≡ before)
     witness_refused refusal is = subst (λ (o : Outcome). AnsweredAs table formula asked o before after r) is e
 
-    pub witness_shown : checked ≡ Accepted → (l : Lengths) × (r ≡ Answers.Run l) × Shows table formula asked before after l.stem l.turn
+    pub witness_shown : checked ≡ Ok tt → (l : Lengths) × (r ≡ Ok l) × Shows table formula asked before after l.stem l.turn
     witness_shown is = subst (λ (o : Outcome). AnsweredAs table formula asked o before after r) is e

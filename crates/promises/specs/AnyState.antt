@@ -2,7 +2,7 @@
 -- each event that is missing and then for the one that came (02, h), and what it shows goes by its two sets alone. Nothing here asks that the live set was prepared, or that the state
 -- was reached by events. Here are the definitions, and that the flag of the first event makes no difference; proofs/AnyState has the other proofs.
 use mathlib.Core.Logic.Iff
-use Rattle.std.specs.Prelude.{ℕ, zero, suc, ◌+◌, ◌≡◌, refl, Bool, length, replicate}
+use Rattle.std.specs.Prelude.{ℕ, zero, suc, ◌+◌, ◌≡◌, refl, Bool, length, replicate, Ok, Err}
 use Rattle.std.proofs.Common.{◌∙◌}
 use Rattle.std.proofs.Math.Path.{sym, ap}
 use Rattle.std.proofs.Math.Bool.{true, false, So}
@@ -25,10 +25,8 @@ use Rattle.model.specs.Monitor as model
 use Rattle.model.specs.Sets.{PairSet}
 use Rattle.model.proofs.Rule.{step_rule, step_sets, first_restart}
 use Rattle.answers.specs.declared.Lamp.{Lamp}
-use Rattle.answers.specs.declared.Answer.{Answer}
-use Rattle.answers.specs.declared.Answer.TheVariants.{Shown, Refused}
-use Rattle.answers.specs.declared.Outcome.{Outcome}
-use Rattle.answers.specs.declared.Outcome.TheVariants as Outcomes
+use Rattle.answers.specs.Results.{Answer}
+use Rattle.answers.specs.Results.{Outcome}
 use Rattle.answers.specs.Paper.{verdict, paper}
 use Rattle.plant.specs.declared.Plant.{Plant}
 use Rattle.syntax.specs.declared.Rule.{Rule}
@@ -51,7 +49,7 @@ Sides m b s v = So (inside (side_of m b) s v)
 
 -- the call is accepted: it shows a lamp
 abbrev pub Accepts : Answer → Type 0
-Accepts a = (l : Lamp) × (a ≡ Shown l)
+Accepts a = (l : Lamp) × (a ≡ Ok l)
 
 -- a monitor's lamp: the verdict by which of its two sets are occupied, and `left`, how many table states occur in them
 pub record ShownBy (T : run.Plant) (m : Monitor) (a : Answer) : Type 0 where
@@ -131,19 +129,19 @@ module _ (T : run.Plant) (f : Formula) (A : AcceptedTable T) (small : Small f) (
 -- ---- the calls
 
 is_shown : Answer → Bool
-is_shown (Shown l) = true
-is_shown (Refused r) = false
+is_shown (Ok l) = true
+is_shown (Err r) = false
 
 -- a call that shows a lamp passed its checks
-pub passed : (o : Outcome) (old : Monitor) (expected : ℕ) (new : model.Monitor) → Accepts (watched o old expected new).answer → o ≡ Outcomes.Accepted
+pub passed : (o : Outcome) (old : Monitor) (expected : ℕ) (new : model.Monitor) → Accepts (watched o old expected new).answer → o ≡ Ok tt
 unfolding is_shown
-passed Outcomes.Accepted old expected new a = refl
-passed (Outcomes.Refused r) old expected new (l, e) = absurd (false≢true (ap is_shown e))
+passed (Ok _) old expected new a = refl
+passed (Err r) old expected new (l, e) = absurd (false≢true (ap is_shown e))
 
-pub passed_look : (o : Outcome) (m : model.Monitor) → Accepts (lit o m) → o ≡ Outcomes.Accepted
+pub passed_look : (o : Outcome) (m : model.Monitor) → Accepts (lit o m) → o ≡ Ok tt
 unfolding is_shown
-passed_look Outcomes.Accepted m a = refl
-passed_look (Outcomes.Refused r) m (l, e) = absurd (false≢true (ap is_shown e))
+passed_look (Ok _) m a = refl
+passed_look (Err r) m (l, e) = absurd (false≢true (ap is_shown e))
 
 module _ (p : Plant) (fair label next : List ℕ) (rule : Rule) (full : length rule.nodes ≡ 32) where
   abbrev pub T : run.Plant

@@ -3,7 +3,7 @@
 use mathlib.Core.Logic.Iff
 use Prim.Native.Nat.{ℕ, ◌+◌, ◌^◌, ◌≤◌}
 use Rattle.std.proofs.Common.{arith, subst, ◌∙◌, le-ltb}
-use Rattle.std.specs.Prelude.{◌≡◌, false, ltb, length}
+use Rattle.std.specs.Prelude.{◌≡◌, false, ltb, length, Result, Ok}
 use Rattle.std.proofs.Math.Path.{sym, ap}
 use Rattle.std.proofs.Math.Bool.{Bool, true, not}
 use mathlib.Core.List.{List, [], ◌∷◌, ◌++◌}
@@ -20,8 +20,7 @@ use Rattle.model.specs.Monitor as model
 use Rattle.model.specs.Log as log
 use Rattle.model.proofs.Log as log_laws
 use Rattle.answers.specs.declared.Kind.TheVariants.{Room}
-use Rattle.answers.specs.declared.Outcome.{Outcome}
-use Rattle.answers.specs.declared.Outcome.TheVariants.{Accepted}
+use Rattle.answers.specs.Results.{Outcome}
 use Rattle.answers.specs.Chain.{unless, chain_accepts, unless_accepts}
 use Rattle.plant.specs.declared.Plant.{Plant}
 use Rattle.syntax.specs.declared.Rule.{Rule}
@@ -37,15 +36,15 @@ use Rattle.watching.specs.Watching as watching
 use Rattle.watching.specs.Filled.{expected_from, filled}
 use Rattle.watching.specs.Watching.{TakenFrom, AllTaken, taken_ones}
 use Rattle.watching.proofs.Watching.{after_model}
-use Rattle.witness.specs.declared.Witnessed.{Witnessed}
-use Rattle.witness.specs.declared.Witnessed.TheVariants as Answers
+use Rattle.walk.specs.declared.Lengths.{Lengths}
+use Rattle.answers.specs.declared.Refusal.{Refusal}
 use Rattle.witness.specs.Calls.{AnsweredAs, Answered, asked_of}
 
 -- a run of the asked kind goes on by what was written: r tells how many states the stem has and the loop, within 01's bounds, and the buffer begins with their numbers, the other bytes as they were.
 -- With some walk along the events before it, it is a run that agrees with them and keeps the rule, or breaks it
-pub record GoesOn (T : run.Plant) (f : Formula) (h : History) (b : Bool) (before bytes : List ℕ) (r : Witnessed) : Type 0 where
+pub record GoesOn (T : run.Plant) (f : Formula) (h : History) (b : Bool) (before bytes : List ℕ) (r : Result Lengths Refusal) : Type 0 where
   pub lasso : Lasso
-  pub lengths : r ≡ Answers.Run (record { stem = length lasso.stem; turn = length lasso.loop })
+  pub lengths : r ≡ Ok (record { stem = length lasso.stem; turn = length lasso.loop })
   pub written : bytes ≡ over (lasso.stem ++ lasso.loop) before
   pub short_stem : length lasso.stem ≤ most_stem
   pub short_loop : length lasso.loop ≤ most_loop
@@ -102,7 +101,7 @@ module _ (p : Plant) (fair label next : List ℕ) (rule : Rule) (given : Input p
       -- a buffer of 01's room
       module _ (room : ℕ) (enough : witness_room ≤ room) where
         -- no check but 13 is left
-        pub asked : asked_of p fair label next rule m room ≡ Accepted
+        pub asked : asked_of p fair label next rule m room ≡ Ok tt
         unfolding asked_of
         asked =
             (chain_accepts _ (unless (not (ltb room witness_room)) Room)).1 (
@@ -111,7 +110,7 @@ module _ (p : Plant) (fair label next : List ℕ) (rule : Rule) (given : Input p
             )
 
       -- so by its contract, of any buffer of that room: what it answers and what the buffer then holds
-      module _ (before bytes : List ℕ) (enough : witness_room ≤ length before) (r : Witnessed) (answered : Answered p fair label next rule m b before bytes r) where
+      module _ (before bytes : List ℕ) (enough : witness_room ≤ length before) (r : Result Lengths Refusal) (answered : Answered p fair label next rule m b before bytes r) where
         abbrev pub As : Outcome → Type 0
         As o = AnsweredAs T f (model.side (model_of m) b) o before bytes r
 

@@ -1,5 +1,5 @@
 -- Demand 3 (promise 3 of docs/PROMISES.md): after accepted events, fed one by one to the calls, the lamp says what the runs say.
-use Rattle.std.specs.Prelude.{ℕ, zero, suc, ◌≡◌, refl, Bool, false, cond, not, List, [], ◌∷◌, ◌++◌, length, replicate}
+use Rattle.std.specs.Prelude.{ℕ, zero, suc, ◌≡◌, refl, Bool, false, cond, not, List, [], ◌∷◌, ◌++◌, length, replicate, Ok, Err}
 use Rattle.std.proofs.Common.{subst, append-nil, append_assoc, inl, inr, ⊎_elim}
 use Rattle.meaning.specs.Says.{Says}
 use Rattle.meaning.specs.Formula.{Formula}
@@ -19,8 +19,7 @@ use Rattle.model.proofs.Shown.{occurs_says}
 use Rattle.model.specs.Log as log
 use Rattle.model.proofs.Log as log_laws
 use Rattle.model.specs.Witness.{Witness}
-use Rattle.answers.specs.declared.Answer.{Answer}
-use Rattle.answers.specs.declared.Answer.TheVariants.{Shown, Refused}
+use Rattle.answers.specs.Results.{Answer}
 use Rattle.answers.specs.Paper.{verdict, paper, number_of, kind_number}
 use Rattle.answers.proofs.Promises.{verdict_number}
 use Rattle.plant.specs.declared.Plant.{Plant}
@@ -45,8 +44,8 @@ side_of m b = cond b m.keeps.words m.breaks.words
 
 -- the number that an answer shows on paper
 abbrev pub shown_number : Answer → ℕ
-shown_number (Shown l) = number_of l.verdict
-shown_number (Refused r) = kind_number r.kind
+shown_number (Ok l) = number_of l.verdict
+shown_number (Err r) = kind_number r.kind
 
 -- the lamp is right for what was seen: the verdict is the runs' own, and `left` counts the states in which an agreeing run can now be
 pub record Lit (T : run.Plant) (f : Formula) (h : History) (a : Answer) : Type 0 where

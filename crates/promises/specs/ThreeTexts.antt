@@ -1,6 +1,6 @@
 -- The calls one after the other, from the bytes of a table, a rule and a log to the lamp behind the last event; and that for texts which are accepted it is the model's lamp for what
 -- they say. What the program writes of three files is said in FrontDoor; here stands what a caller is shown.
-use Rattle.std.specs.Prelude.{ℕ, ◌+◌, ◌≡◌, refl, Bool, true, false, ◌&&◌, List, [], ◌∷◌, take}
+use Rattle.std.specs.Prelude.{ℕ, ◌+◌, ◌≡◌, refl, Bool, true, false, ◌&&◌, List, [], ◌∷◌, take, Ok, Err}
 use Rattle.std.proofs.Common.{ap, ◌∙◌}
 use Rattle.std.proofs.Math.Bool.{So}
 use Rattle.std.proofs.lemmas.Bool.{false≢true}
@@ -12,8 +12,7 @@ use Rattle.meaning.specs.Event as meaning
 use Rattle.text.specs.Number.{width_of}
 use Rattle.model.specs.Monitor as model
 use Rattle.model.specs.Log as model-log
-use Rattle.answers.specs.declared.Outcome.{Outcome}
-use Rattle.answers.specs.declared.Outcome.TheVariants.{Accepted, Refused}
+use Rattle.answers.specs.Results.{Outcome}
 use Rattle.answers.specs.Paper.{Paper, verdict, refusal, paper}
 use Rattle.answers.specs.Chain.{is_accepted}
 use Rattle.plant.specs.declared.Plant.{Plant}
@@ -41,8 +40,8 @@ use Rattle.watching.proofs.Watching.{after_model}
 
 -- a refusal, or what comes behind it
 abbrev pub behind : Outcome → Paper → Paper
-behind Accepted p = p
-behind (Refused r) p = refusal r
+behind (Ok _) p = p
+behind (Err r) p = refusal r
 
 module _ (table rule log : List ℕ) where
   -- the table is read, and of its parts as many are lent as it counts
@@ -104,9 +103,9 @@ model_shown x = let m = model-log.watched x.on x.rule x.log in verdict (model.ve
 
 -- ---- the law
 
-accepted_is : (o : Outcome) → So (is_accepted o) → o ≡ Accepted
-accepted_is Accepted so = refl
-accepted_is (Refused r) so = absurd (false≢true so)
+accepted_is : (o : Outcome) → So (is_accepted o) → o ≡ Ok tt
+accepted_is (Ok _) so = refl
+accepted_is (Err r) so = absurd (false≢true so)
 
 all_taken : (p : Plant) (fair label next : List ℕ) (rule : Rule) → Input p fair label next rule → (seen : Bool) (expected : ℕ) (es : List Event) → So (takes_all p.props seen expected es)
     → TakenFrom p fair label next rule seen expected es
@@ -145,13 +144,13 @@ module _ (table rule log : List ℕ) (fine : So (said_by table rule log).fine) w
   last_two : So (is_accepted (logged table rule log).outcome) × So (taken table rule log)
   last_two = (and_says (is_accepted (logged table rule log).outcome) (taken table rule log)).0 tests.1
 
-  table_ok : (table_read table).outcome ≡ Accepted
+  table_ok : (table_read table).outcome ≡ Ok tt
   table_ok = accepted_is (table_read table).outcome first_two.0
 
-  rule_ok : (ruled table rule log).outcome ≡ Accepted
+  rule_ok : (ruled table rule log).outcome ≡ Ok tt
   rule_ok = accepted_is (ruled table rule log).outcome first_two.1
 
-  log_ok : (logged table rule log).outcome ≡ Accepted
+  log_ok : (logged table rule log).outcome ≡ Ok tt
   log_ok = accepted_is (logged table rule log).outcome last_two.0
 
   input : Input p fs ls ns r

@@ -1,7 +1,7 @@
 -- The end of a line as the code does it; and by what a rule says, which was worked out, a scrap is heard as by the calls.
 use Prim.Native.Nat.{ℕ, ◌+◌}
 use Rattle.std.proofs.Common.{arith, sym, ap₂, ◌∙◌}
-use Rattle.std.specs.Prelude.{◌≡◌, refl, Bool, true, false, cond, ltb, length, take, replicate}
+use Rattle.std.specs.Prelude.{◌≡◌, refl, Bool, true, false, cond, ltb, length, take, replicate, Ok, Err}
 use Rattle.std.proofs.Math.Path.{ap, subst}
 use mathlib.Core.List.{List, [], ◌∷◌, ◌++◌}
 use Rattle.pairs.specs.declared.Pairs.{Pairs}
@@ -9,10 +9,8 @@ use Rattle.model.specs.Sets.{PairSet}
 use Rattle.answers.specs.declared.Kind.TheVariants.{LogText}
 use Rattle.answers.specs.declared.Lamp.{Lamp}
 use Rattle.answers.specs.declared.Refusal.{Refusal}
-use Rattle.answers.specs.declared.Answer.{Answer}
-use Rattle.answers.specs.declared.Answer.TheVariants as Answers
-use Rattle.answers.specs.declared.Outcome.{Outcome}
-use Rattle.answers.specs.declared.Outcome.TheVariants.{Accepted, Refused}
+use Rattle.answers.specs.Results.{Answer}
+use Rattle.answers.specs.Results.{Outcome}
 use Rattle.answers.specs.Paper.{number_of, refused_at}
 use Rattle.plant.specs.declared.Plant.{Plant}
 use Rattle.syntax.specs.declared.Rule.{Rule}
@@ -61,20 +59,20 @@ module _ (p : Plant) (label next leave enter holds : List ℕ) (count : ℕ) (li
   unfolding ended_turn
   ends_by is = ap (λ (x : Outcome). by x e) (sym is ∙ told) ∙ ap (λ (e : Event). by (event_outcome e p.props r.monitor.seen r.monitor.expected) e) line
 
-  pub end_refused : {x y : Refusal} → o ≡ Refused x → y ≡ refused_at x.kind r.start → {z : Radio} → z ≡ stopped_radio r y
+  pub end_refused : {x y : Refusal} → o ≡ Err x → y ≡ refused_at x.kind r.start → {z : Radio} → z ≡ stopped_radio r y
       → record { radio = z; lit = None } ≡ ended_turn (width_of p.props) (turn_by p label next leave enter holds count live) r q
   end_refused is place stops = ap (λ (z : Radio). record { radio = z; lit = None }) (stops ∙ ap (stopped_radio r) place) ∙ ends_by is
 
-  pub end_taken : o ≡ Accepted → {now : Monitor} → now ≡ taken_in label next (ways_by leave enter holds count) live r.monitor e → {shown : Lamp} → shown ≡ lamp_in (model_of now)
+  pub end_taken : o ≡ Ok tt → {now : Monitor} → now ≡ taken_in label next (ways_by leave enter holds count) live r.monitor e → {shown : Lamp} → shown ≡ lamp_in (model_of now)
       → {v : ℕ} → v ≡ number_of shown.verdict → {form : Form} → form ≡ form_of (is_numbered q)
-      → record { radio = record { part = replicate 40 0; len = 0; start = r.start + length q; form = form; standing = Accepted; monitor = now }; lit = Some v }
+      → record { radio = record { part = replicate 40 0; len = 0; start = r.start + length q; form = form; standing = Ok tt; monitor = now }; lit = Some v }
       ≡ ended_turn (width_of p.props) (turn_by p label next leave enter holds count live) r q
   end_taken is {now} moves {shown} shows {v} value {form} formed =
       ap₂ (λ (f : Form) (v : ℕ). behind f v now) formed (value ∙ ap (λ (l : Lamp). number_of l.verdict) shows)
       ∙ ap (λ (m : Monitor). behind (form_of (is_numbered q)) (number_of (lamp_in (model_of m)).verdict) m) moves ∙ ends_by is
     where
       behind : Form → ℕ → Monitor → Turned
-      behind form v m = record { radio = record { part = replicate 40 0; len = 0; start = r.start + length q; form = form; standing = Accepted; monitor = m }; lit = Some v }
+      behind form v m = record { radio = record { part = replicate 40 0; len = 0; start = r.start + length q; form = form; standing = Ok tt; monitor = m }; lit = Some v }
 
 -- ---- as by the calls
 
@@ -91,8 +89,8 @@ module _ (p : Plant) (fair label next : List ℕ) (rule : Rule) (given : Input p
 
   -- the monitor stays one of the table and the rule
   answered_fine : (h : Heard) → Fine h → (q : List ℕ) (s : Watched) → Held p fair label next rule s.monitor → (a : Answer) → Fine (answered h q s a)
-  answered_fine h fine q s held (Answers.Shown l) = held
-  answered_fine h fine q s held (Answers.Refused x) = fine
+  answered_fine h fine q s held (Ok l) = held
+  answered_fine h fine q s held (Err x) = fine
 
   byte_fine : (h : Heard) → Fine h → (b : ℕ) → Fine (hear w calls h b)
   unfolding hear
@@ -110,8 +108,8 @@ module _ (p : Plant) (fair label next : List ℕ) (rule : Rule) (given : Input p
       pick false u = fine
 
       by : (o : Outcome) → Fine (byte_heard w calls o h b)
-      by Accepted = pick (begins w h.ear.form q) (ltb (length q) (bytes_in w q))
-      by (Refused x) = fine
+      by (Ok _) = pick (begins w h.ear.form q) (ltb (length q) (bytes_in w q))
+      by (Err x) = fine
 
   byte_called : (h : Heard) → Fine h → (b : ℕ) → hear w turns h b ≡ hear w calls h b
   unfolding hear
@@ -121,10 +119,10 @@ module _ (p : Plant) (fair label next : List ℕ) (rule : Rule) (given : Input p
       q = h.ear.part ++ b ∷ []
 
       by : (o : Outcome) → byte_heard w turns o h b ≡ byte_heard w calls o h b
-      by Accepted =
+      by (Ok _) =
           ap (λ (s : Watched). cond (begins w h.ear.form q) (cond (ltb (length q) (bytes_in w q)) (kept h q) (answered h q s s.answer)) (stopped h (refused_at LogText (h.ear.start + length h.ear.part))))
           (turn_is p fair label next rule given live fits h.ear.monitor fine (event_at w q 0))
-      by (Refused x) = refl
+      by (Err x) = refl
 
   pub all_called : (s : List ℕ) (h : Heard) → Held p fair label next rule h.ear.monitor → hear_all w (turn p label next (ways_of label rule) live) h s ≡ hear_all w (step_call p fair label next rule live) h s
   all_called [] h fine = refl

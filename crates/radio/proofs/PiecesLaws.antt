@@ -2,7 +2,7 @@
 use Prim.Native.Nat.{ℕ, ◌+◌, ◌≤◌, ◌<◌}
 use native.Mathlib.Omega.{arith}
 use Rattle.std.proofs.Common.{sym, ◌∙◌, length-append}
-use Rattle.std.specs.Prelude.{◌≡◌, Bool, ltb}
+use Rattle.std.specs.Prelude.{◌≡◌, Bool, ltb, Ok, Err}
 use Rattle.std.proofs.Math.Path.{refl, ap}
 use Rattle.std.proofs.Math.Bool.{true, false, cond}
 use mathlib.Core.List.{List, [], ◌∷◌, ◌++◌, append_assoc, append-nil}
@@ -10,10 +10,8 @@ use borrow.Author.Tests.{leb-true, lt-ltb, le-ltb}
 use Rattle.std.proofs.Math.ListN.{length}
 use Rattle.answers.specs.declared.Kind.TheVariants.{LogText}
 use Rattle.answers.specs.declared.Refusal.{Refusal}
-use Rattle.answers.specs.declared.Answer.{Answer}
-use Rattle.answers.specs.declared.Answer.TheVariants as Answers
-use Rattle.answers.specs.declared.Outcome.{Outcome}
-use Rattle.answers.specs.declared.Outcome.TheVariants.{Accepted, Refused}
+use Rattle.answers.specs.Results.{Answer}
+use Rattle.answers.specs.Results.{Outcome}
 use Rattle.answers.specs.Paper.{refused_at}
 use Rattle.event_log.specs.declared.Event.{Event}
 use Rattle.event_log.specs.Line.{line_bytes}
@@ -29,7 +27,7 @@ module _ (w : ℕ) (step : Monitor → Event → Watched) where
   pieced = of_pieces.pieced w step
 
   -- behind a refusal nothing more happens
-  pub hears_no_more : (h : Heard) {r : Refusal} → h.ear.standing ≡ Refused r → (s : List ℕ) → hear_all w step h s ≡ h
+  pub hears_no_more : (h : Heard) {r : Refusal} → h.ear.standing ≡ Err r → (s : List ℕ) → hear_all w step h s ≡ h
   unfolding hear
   hears_no_more h e [] = refl
   hears_no_more h {r} e (b ∷ s) = ap (λ (g : Heard). hear_all w step g s) (ap (λ (o : Outcome). byte_heard w step o h b) e) ∙ hears_no_more h e s
@@ -40,8 +38,8 @@ module _ (w : ℕ) (step : Monitor → Event → Watched) where
 
   -- of what was kept, only the form, the start and the monitor count
   answered_kept : (h : Heard) (p q : List ℕ) (s : Watched) (a : Answer) → answered (kept h p) q s a ≡ answered h q s a
-  answered_kept h p q s (Answers.Shown l) = refl
-  answered_kept h p q s (Answers.Refused r) = refl
+  answered_kept h p q s (Ok l) = refl
+  answered_kept h p q s (Err r) = refl
 
   pieced_kept : (h : Heard) (p q : List ℕ) → pieced (kept h p) q ≡ pieced h q
   unfolding of_pieces.pieced
@@ -54,7 +52,7 @@ module _ (w : ℕ) (step : Monitor → Event → Watched) where
   stops_at h q i e l = rw (e, lt-ltb i (length q) l) refl
 
   -- THE LAW OF PIECES: bytes one by one, that are no more than the line has, are the piece at once
-  pub pieces : (x : List ℕ) (h : Heard) → h.ear.standing ≡ Accepted → Kept w h.ear.form h.ear.part → 0 < length x
+  pub pieces : (x : List ℕ) (h : Heard) → h.ear.standing ≡ Ok tt → Kept w h.ear.form h.ear.part → 0 < length x
       → length (h.ear.part ++ x) ≤ bytes_in w (h.ear.part ++ x) → hear_all w step h x ≡ pieced h (h.ear.part ++ x)
   unfolding hear
   pieces [] h goes keep some fits = absurd (omega arith)

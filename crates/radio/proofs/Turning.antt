@@ -1,5 +1,5 @@
 -- A piece as the code takes it is what its bytes give one by one; and what the loop over a scrap has done behind some pieces.
-use Rattle.std.specs.Prelude.{ℕ, ◌+◌, ◌-◌, ◌^◌, ◌≤◌, ◌<◌, ◌≡◌, Bool, eqb, drop, replicate}
+use Rattle.std.specs.Prelude.{ℕ, ◌+◌, ◌-◌, ◌^◌, ◌≤◌, ◌<◌, ◌≡◌, Bool, eqb, drop, replicate, Ok, Err}
 use Rattle.std.proofs.Common.{zero-le, arith, sym, ◌∙◌, length-append, length-take, length-drop, get_or-take, take_all, take-add}
 use Rattle.std.proofs.Math.Path.{refl, ap, ap₂, subst}
 use Rattle.std.proofs.Math.Bool.{true, false, cond}
@@ -11,10 +11,8 @@ use Rattle.std.proofs.Math.Dec.{ltb, leb}
 use Rattle.std.proofs.Math.ListN.{length, take}
 use Rattle.std.proofs.lemmas.List.{length-replicate}
 use Rattle.answers.specs.declared.Kind.TheVariants.{LogText}
-use Rattle.answers.specs.declared.Answer.{Answer}
-use Rattle.answers.specs.declared.Answer.TheVariants as Answers
-use Rattle.answers.specs.declared.Outcome.{Outcome}
-use Rattle.answers.specs.declared.Outcome.TheVariants.{Accepted, Refused}
+use Rattle.answers.specs.Results.{Answer}
+use Rattle.answers.specs.Results.{Outcome}
 use Rattle.answers.specs.Paper.{refused_at}
 use Rattle.text.specs.Cases.{below_or_beyond}
 use Rattle.event_log.specs.declared.Event.{Event}
@@ -134,8 +132,8 @@ module _ {w : ℕ} {r : Radio} {rest : List ℕ} {size took : ℕ} (cut : Cut w 
 pub piece_small : (w : ℕ) (r : Radio) (rest : List ℕ) → Fit w r (length rest) → w ≤ 4 → 0 < length rest → (o : Outcome)
     → ((piece_of w o r rest).radio.len ≤ 40) × ((piece_of w o r rest).radio.start + (piece_of w o r rest).radio.len < 2 ^ 63) × (length (piece_of w o r rest).radio.part ≡ 40)
 unfolding open_piece
-piece_small w r rest fit few some (Refused x) = (fit.room, omega (arith, fit.low), fit.long)
-piece_small w r rest fit few some Accepted = by_good (ltb (good_of w r.form line) (length line))
+piece_small w r rest fit few some (Err x) = (fit.room, omega (arith, fit.low), fit.long)
+piece_small w r rest fit few some (Ok _) = by_good (ltb (good_of w r.form line) (length line))
   where
     line : List ℕ
     line = part_of r ++ take (took_of w r rest) rest
@@ -182,7 +180,7 @@ module _ (w : ℕ) (step : Monitor → Event → Watched) (few : w ≤ 4) where
     cut = record { fit = fit; some = some; few = few; is_size = refl; is_took = refl }
 
     -- the bytes one by one
-    bytes : r.standing ≡ Accepted → (vs : List ℕ) → hear_all w step (heard_by r vs) (take (took_of w r rest) rest) ≡ pieced w step (heard_by r vs) (take r.len r.part ++ take (took_of w r rest) rest)
+    bytes : r.standing ≡ Ok tt → (vs : List ℕ) → hear_all w step (heard_by r vs) (take (took_of w r rest) rest) ≡ pieced w step (heard_by r vs) (take r.len r.part ++ take (took_of w r rest) rest)
     bytes goes vs = pieces w step (take took rest) (heard_by r vs) goes fit.keep (omega (arith, length-take took rest, cut_some cut, cut_within cut))
         (omega (arith, cut_long cut, cut_end cut, cut_size cut))
 
@@ -194,7 +192,7 @@ module _ (w : ℕ) (step : Monitor → Event → Watched) (few : w ≤ 4) where
 
     -- a radio that keeps nothing
     emptied : (t : Turned) → t.radio.len ≡ 0 → t.radio.part ≡ replicate 40 0 → t.radio.start ≤ r.start + (r.len + took)
-        → ((vs : List ℕ) → pieced w step (heard_by r vs) line ≡ heard_by t.radio (vs ++ lit_of t.lit)) → r.standing ≡ Accepted → Turning r rest took t
+        → ((vs : List ℕ) → pieced w step (heard_by r vs) line ≡ heard_by t.radio (vs ++ lit_of t.lit)) → r.standing ≡ Ok tt → Turning r rest took t
     emptied t none zero low is goes = record {
       is = λ vs. bytes goes vs ∙ is vs;
       some = cut_some cut;
@@ -208,18 +206,18 @@ module _ (w : ℕ) (step : Monitor → Event → Watched) (few : w ≤ 4) where
       clean = empty_clean t.radio none zero;
     }
 
-    by_stop : r.standing ≡ Accepted → ltb (good_of w r.form line) (length line) ≡ true
+    by_stop : r.standing ≡ Ok tt → ltb (good_of w r.form line) (length line) ≡ true
         → Turning r rest took (record { radio = stopped_radio r (refused_at LogText (r.start + good_of w r.form line)); lit = None })
     unfolding pieced
     by_stop goes e = emptied _ refl refl (omega arith) (λ vs. rw (e, append-nil) refl) goes
 
     -- the event of a whole line
-    by_answer : r.standing ≡ Accepted → ((vs : List ℕ) → pieced w step (heard_by r vs) line ≡ ended w step (heard_by r vs) line)
+    by_answer : r.standing ≡ Ok tt → ((vs : List ℕ) → pieced w step (heard_by r vs) line ≡ ended w step (heard_by r vs) line)
         → (s : Watched) → step r.monitor (event_at w line 0) ≡ s → (a : Answer) → s.answer ≡ a → Turning r rest took (answered_turn w step kept_radio line s a)
-    by_answer goes is s e (Answers.Shown l) f = emptied _ refl refl (omega (arith, cut_long cut)) (λ vs. is vs ∙ rw (e, f) refl) goes
-    by_answer goes is s e (Answers.Refused x) f = emptied _ refl refl (omega arith) (λ vs. is vs ∙ rw (e, f, append-nil) refl) goes
+    by_answer goes is s e (Ok l) f = emptied _ refl refl (omega (arith, cut_long cut)) (λ vs. is vs ∙ rw (e, f) refl) goes
+    by_answer goes is s e (Err x) f = emptied _ refl refl (omega arith) (λ vs. is vs ∙ rw (e, f, append-nil) refl) goes
 
-    by_whole : r.standing ≡ Accepted → ((vs : List ℕ) → pieced w step (heard_by r vs) line ≡ lengthened w step (heard_by r vs) line) → length line ≤ good_of w r.form line
+    by_whole : r.standing ≡ Ok tt → ((vs : List ℕ) → pieced w step (heard_by r vs) line ≡ lengthened w step (heard_by r vs) line) → length line ≤ good_of w r.form line
         → (b : Bool) → leb size (length line) ≡ b → Turning r rest took (turned_of w step b kept_radio)
     unfolding ended_turn radio_of
     by_whole goes is good true e =
@@ -245,7 +243,7 @@ module _ (w : ℕ) (step : Monitor → Event → Watched) (few : w ≤ 4) where
         kept_clean : kept_radio ≡ radio_of (ear_of kept_radio)
         kept_clean = rw back refl
 
-    opens : r.standing ≡ Accepted → Turning r rest (open_piece w r rest).took (turned_of w step (open_piece w r rest).whole (open_piece w r rest).radio)
+    opens : r.standing ≡ Ok tt → Turning r rest (open_piece w r rest).took (turned_of w step (open_piece w r rest).whole (open_piece w r rest).radio)
     unfolding open_piece pieced
     opens goes = by_good (ltb (good_of w r.form line) (length line)) refl
       where
@@ -259,8 +257,8 @@ module _ (w : ℕ) (step : Monitor → Event → Watched) (few : w ≤ 4) where
             (leb size (length line)) refl
 
     pub turning : (o : Outcome) → r.standing ≡ o → Turning r rest (piece_of w o r rest).took (turned_of w step (piece_of w o r rest).whole (piece_of w o r rest).radio)
-    turning Accepted e = opens e
-    turning (Refused x) e = record {
+    turning (Ok _) e = opens e
+    turning (Err x) e = record {
       is = λ vs. hears_no_more w step (heard_by r vs) e (take (length rest) rest) ∙ ap (heard_by r) (sym (append-nil vs));
       some = some;
       within = omega arith;

@@ -1,12 +1,10 @@
 -- The radio as code keeps it, and what the code says of a piece.
-use Rattle.std.specs.Prelude.{ℕ, ◌+◌, ◌-◌, ◌^◌, ◌≤◌, ◌<◌, ◌≡◌, Bool, false, cond, ◌&&◌, List, [], ◌∷◌, ◌++◌, ltb, leb, length, take, get_or, set, replicate}
+use Rattle.std.specs.Prelude.{ℕ, ◌+◌, ◌-◌, ◌^◌, ◌≤◌, ◌<◌, ◌≡◌, Bool, false, cond, ◌&&◌, List, [], ◌∷◌, ◌++◌, ltb, leb, length, take, get_or, set, replicate, Ok, Err}
 use Rattle.words.specs.Below.{list_below}
 use Rattle.answers.specs.declared.Kind.TheVariants.{LogText}
 use Rattle.answers.specs.declared.Refusal.{Refusal}
-use Rattle.answers.specs.declared.Answer.{Answer}
-use Rattle.answers.specs.declared.Answer.TheVariants as Answers
-use Rattle.answers.specs.declared.Outcome.{Outcome}
-use Rattle.answers.specs.declared.Outcome.TheVariants.{Accepted, Refused}
+use Rattle.answers.specs.Results.{Answer}
+use Rattle.answers.specs.Results.{Outcome}
 use Rattle.answers.specs.Paper.{number_of, refused_at}
 use Rattle.event_log.specs.declared.Event.{Event}
 use Rattle.event_log.specs.Read.{is_numbered, bytes_in, event_at}
@@ -58,7 +56,7 @@ kept_ok w r = ltb (length (part_of r)) (bytes_in w (part_of r)) && begins w r.fo
 -- ---- a piece
 
 abbrev pub stopped_radio : Radio → Refusal → Radio
-stopped_radio r x = record { part = replicate 40 0; len = 0; start = r.start; form = r.form; standing = Refused x; monitor = r.monitor }
+stopped_radio r x = record { part = replicate 40 0; len = 0; start = r.start; form = r.form; standing = Err x; monitor = r.monitor }
 
 unfoldable pub lesser_of : ℕ → ℕ → ℕ
 lesser_of a b = cond (ltb a b) a b
@@ -79,8 +77,8 @@ module _ (w : ℕ) where
 
   -- behind a refusal the rest is one piece
   abbrev pub piece_of : Outcome → Radio → List ℕ → Pieced
-  piece_of Accepted r rest = open_piece r rest
-  piece_of (Refused x) r rest = record { radio = r; took = length rest; whole = false }
+  piece_of (Ok _) r rest = open_piece r rest
+  piece_of (Err x) r rest = record { radio = r; took = length rest; whole = false }
 
 -- ---- a line
 
@@ -97,12 +95,12 @@ turn_by p label next leave enter holds count live = turn p label next (ways_by l
 
 module _ (w : ℕ) (step : Monitor → Event → Watched) where
   abbrev pub answered_turn : Radio → List ℕ → Watched → Answer → Turned
-  answered_turn r q s (Answers.Shown l) =
+  answered_turn r q s (Ok l) =
       record {
-        radio = record { part = replicate 40 0; len = 0; start = r.start + length q; form = form_of (is_numbered q); standing = Accepted; monitor = s.monitor };
+        radio = record { part = replicate 40 0; len = 0; start = r.start + length q; form = form_of (is_numbered q); standing = Ok tt; monitor = s.monitor };
         lit = Some (number_of l.verdict);
       }
-  answered_turn r q s (Answers.Refused x) = record { radio = stopped_radio r (refused_at x.kind r.start); lit = None }
+  answered_turn r q s (Err x) = record { radio = stopped_radio r (refused_at x.kind r.start); lit = None }
 
   unfoldable pub ended_turn : Radio → List ℕ → Turned
   ended_turn r q = answered_turn r q (step r.monitor (event_at w q 0)) (step r.monitor (event_at w q 0)).answer

@@ -1,7 +1,7 @@
 -- The laws of the bytes kept and of a piece, as the code goes.
 use Prim.Native.Nat.{ℕ, ◌+◌, ◌-◌, ◌≤◌, ◌<◌, zero-le}
 use Rattle.std.proofs.Common.{arith, le_antisymm, zero-add, sym, ap₂, ◌∙◌, ⊎_elim, append-nil, length-append, length-take, ext_get_or, get_or-take, get_or-append-add}
-use Rattle.std.specs.Prelude.{◌≡◌, Bool, true, false, List, [], ◌++◌, ltb, leb, eqb, length, take, get_or, replicate}
+use Rattle.std.specs.Prelude.{◌≡◌, Bool, true, false, List, [], ◌++◌, ltb, leb, eqb, length, take, get_or, replicate, Ok, Err}
 use Rattle.std.proofs.Math.Path.{refl, ap, subst}
 use Rattle.std.proofs.Math.Bool.{cond}
 use Rattle.std.proofs.lemmas.Bool.{false≢true}
@@ -11,7 +11,6 @@ use Rattle.std.proofs.Math.ListN.{get_or-append, get_or-eq_default}
 use Rattle.words.specs.Truth.{and_says}
 use Rattle.words.specs.Lists.{length_list, list_at, list_of, zeros}
 use Rattle.answers.specs.declared.Refusal.{Refusal}
-use Rattle.answers.specs.declared.Outcome.TheVariants.{Accepted, Refused}
 use Rattle.answers.specs.Chain.{is_accepted, place_of}
 use Rattle.text.specs.Cases.{below_or_beyond}
 use Rattle.text.specs.Slot.{matched}
@@ -104,7 +103,7 @@ module _ (w : ℕ) (s : List ℕ) (some : 0 < length s) (few : length s ≤ byte
       good_at k = matched s (lines_slots (line (is_numbered s) w) k (line_at (line (is_numbered s) w) (bytes_in w s) s))
 
   -- accepted: all of it fits
-  fit_whole : (b : Bool) → ltb (fit_of (line (is_numbered s) w) s) (bytes_in w s) ≡ b → (cond b (refused_log (fit_of (line (is_numbered s) w) s)) (accepted_log 1)).outcome ≡ Accepted → length s ≡ fit_of (line (is_numbered s) w) s
+  fit_whole : (b : Bool) → ltb (fit_of (line (is_numbered s) w) s) (bytes_in w s) ≡ b → (cond b (refused_log (fit_of (line (is_numbered s) w) s)) (accepted_log 1)).outcome ≡ Ok tt → length s ≡ fit_of (line (is_numbered s) w) s
   fit_whole true e f = absurd (false≢true (ap is_accepted f))
   fit_whole false e f =
       le_antisymm
@@ -112,7 +111,7 @@ module _ (w : ℕ) (s : List ℕ) (some : 0 < length s) (few : length s ≤ byte
       (matched_text s ((line (is_numbered s) w).slots ((line (is_numbered s) w).guess s)))
 
   -- refused: as far as its place
-  fit_part : (b : Bool) {r : Refusal} → (cond b (refused_log (fit_of (line (is_numbered s) w) s)) (accepted_log 1)).outcome ≡ Refused r → r.place ≡ fit_of (line (is_numbered s) w) s
+  fit_part : (b : Bool) {r : Refusal} → (cond b (refused_log (fit_of (line (is_numbered s) w) s)) (accepted_log 1)).outcome ≡ Err r → r.place ≡ fit_of (line (is_numbered s) w) s
   fit_part true e = ap place_of (sym e)
   fit_part false e = absurd (false≢true (ap is_accepted (sym e)))
 
@@ -125,10 +124,10 @@ module _ (w : ℕ) (s : List ℕ) (some : 0 < length s) (few : length s ≤ byte
     unfolding good_of
     good_by e = ap (λ (x : Bool). cond x (fit_of (line (is_numbered s) w) s) 0) (sym e ∙ agreed)
 
-    pub good_whole : {read : LogRead} → read ≡ log_read w s → t ≡ true → read.outcome ≡ Accepted → length s ≡ good_of w form s
+    pub good_whole : {read : LogRead} → read ≡ log_read w s → t ≡ true → read.outcome ≡ Ok tt → length s ≡ good_of w form s
     good_whole is e f = fit_whole (ltb fit n) refl (ap (λ (r : LogRead). r.outcome) (sym one_line ∙ sym is) ∙ f) ∙ good_by e
 
-    pub good_part : {read : LogRead} {r : Refusal} → read ≡ log_read w s → t ≡ true → read.outcome ≡ Refused r → r.place ≡ good_of w form s
+    pub good_part : {read : LogRead} {r : Refusal} → read ≡ log_read w s → t ≡ true → read.outcome ≡ Err r → r.place ≡ good_of w form s
     good_part is e f = fit_part (ltb fit n) (ap (λ (r : LogRead). r.outcome) (sym one_line ∙ sym is) ∙ f) ∙ good_by e
 
     pub good_none : t ≡ false → 0 ≡ good_of w form s

@@ -1,12 +1,10 @@
 -- A LOG THAT COMES IN SCRAPS, BYTE BY BYTE: what is kept between them, and what one byte more does.
-use Rattle.std.specs.Prelude.{ℕ, ◌+◌, Bool, true, false, not, cond, ltb, leb, length}
+use Rattle.std.specs.Prelude.{ℕ, ◌+◌, Bool, true, false, not, cond, ltb, leb, length, Ok, Err}
 use mathlib.Core.List.{List, [], ◌∷◌, ◌++◌, foldl}
 use Rattle.answers.specs.declared.Kind.TheVariants.{LogText}
 use Rattle.answers.specs.declared.Refusal.{Refusal}
-use Rattle.answers.specs.declared.Answer.{Answer}
-use Rattle.answers.specs.declared.Answer.TheVariants as Answers
-use Rattle.answers.specs.declared.Outcome.{Outcome}
-use Rattle.answers.specs.declared.Outcome.TheVariants.{Accepted, Refused}
+use Rattle.answers.specs.Results.{Answer}
+use Rattle.answers.specs.Results.{Outcome}
 use Rattle.answers.specs.Paper.{number_of, refused_at}
 use Rattle.text.specs.Promises.{fit_of}
 use Rattle.event_log.specs.declared.Event.{Event}
@@ -54,7 +52,7 @@ begins w form q = leb (length q) (good_of w form q)
 
 -- behind a refusal nothing is kept of the line
 abbrev pub stopped : Heard → Refusal → Heard
-stopped h r = record { ear = record { part = []; start = h.ear.start; form = h.ear.form; standing = Refused r; monitor = h.ear.monitor }; verdicts = h.verdicts }
+stopped h r = record { ear = record { part = []; start = h.ear.start; form = h.ear.form; standing = Err r; monitor = h.ear.monitor }; verdicts = h.verdicts }
 
 -- a line that is not whole yet
 abbrev pub kept : Heard → List ℕ → Heard
@@ -62,9 +60,9 @@ kept h q = record { ear = record { part = q; start = h.ear.start; form = h.ear.f
 
 -- a whole line: its event's verdict, and the next line begins behind it; or its event is refused, at the line's offset in the whole log
 abbrev pub answered : Heard → List ℕ → Watched → Answer → Heard
-answered h q s (Answers.Shown l) =
-    record { ear = record { part = []; start = h.ear.start + length q; form = form_of (is_numbered q); standing = Accepted; monitor = s.monitor }; verdicts = h.verdicts ++ number_of l.verdict ∷ [] }
-answered h q s (Answers.Refused r) = stopped h (refused_at r.kind h.ear.start)
+answered h q s (Ok l) =
+    record { ear = record { part = []; start = h.ear.start + length q; form = form_of (is_numbered q); standing = Ok tt; monitor = s.monitor }; verdicts = h.verdicts ++ number_of l.verdict ∷ [] }
+answered h q s (Err r) = stopped h (refused_at r.kind h.ear.start)
 
 module _ (w : ℕ) (step : Monitor → Event → Watched) where
   abbrev pub ended : Heard → List ℕ → Heard
@@ -76,10 +74,10 @@ module _ (w : ℕ) (step : Monitor → Event → Watched) where
 
   -- where no line begins so, the byte is refused at its place in the whole log; behind a refusal nothing more happens
   abbrev pub byte_heard : Outcome → Heard → ℕ → Heard
-  byte_heard Accepted h b =
+  byte_heard (Ok _) h b =
       let q = h.ear.part ++ b ∷ [] in
       cond (begins w h.ear.form q) (lengthened h q) (stopped h (refused_at LogText (h.ear.start + length h.ear.part)))
-  byte_heard (Refused r) h b = h
+  byte_heard (Err r) h b = h
 
   unfoldable pub hear : Heard → ℕ → Heard
   hear h b = byte_heard h.ear.standing h b

@@ -8,7 +8,7 @@ ghost use Rattle.radio.specs.Kept.{turn_by, ways_by, ended_turn, turned_of};
 use crate::Radio;
 use crate::line::form_of;
 use advance::{lamp, take};
-use answers::{Outcome, Refusal};
+use answers::Refusal;
 use event_log::Event;
 use event_numbers::{check_event, missing, number_of};
 use plant::Plant;
@@ -65,11 +65,11 @@ fn ended<'a>(
     let event = event_log::event_at(line, 0, plant.props);
     let monitor = radio.monitor;
     match check_event(event, plant.props, monitor.seen, monitor.expected) {
-        Outcome::Refused(refusal) => Turned {
+        Err(refusal) => Turned {
             radio: radio.stopped(Refusal::at(refusal.kind, radio.start)),
             lit: None,
         },
-        Outcome::Accepted => {
+        Ok(()) => {
             let now = moved(
                 label, next, leave, enter, holds, count, live, monitor, event,
             );
@@ -79,7 +79,7 @@ fn ended<'a>(
                 len: 0,
                 start: radio.start + line.len(),
                 form: form_of(line),
-                standing: Outcome::Accepted,
+                standing: Ok(()),
                 monitor: now,
             };
             Turned {

@@ -13,7 +13,7 @@ ghost use Rattle.monitor.specs.Calls.{step_call};
 ghost use Rattle.radio.specs.Radio.{hear_all};
 ghost use Rattle.radio.specs.Kept.{ear_of, radio_of, heard_by, kept_ok, stopped_radio, lit_of, noted_at, Fit, Listened};
 
-use answers::{Outcome, Refusal};
+use answers::Refusal;
 use ends::end_line;
 use line::{good_of, joined};
 use pairs::Pairs;
@@ -39,7 +39,7 @@ pub struct Radio {
     pub len: usize,
     pub start: usize,
     pub form: Form,
-    pub standing: Outcome,
+    pub standing: Result<(), Refusal>,
     pub monitor: Monitor,
 }
 
@@ -68,7 +68,7 @@ impl Radio {
         Radio {
             part: [0; 40],
             len: 0,
-            standing: Outcome::Refused(refusal),
+            standing: Err(refusal),
             ..self
         }
     }

@@ -6,7 +6,6 @@ ghost use Rattle.radio.specs.Radio.{agrees, form_of, good_of};
 ghost use Rattle.radio.specs.Kept.{padded};
 
 use crate::Form;
-use answers::Outcome;
 use std::array;
 
 // The form of a line, which its first byte tells: the `n` of `num=`.
@@ -71,8 +70,8 @@ pub fn good_of(line: &[u8], form: Form, props: usize) -> usize
     let numbered = text::byte_at(line, 0) == b'n';
     if may_be(form, numbered) {
         return match event_log::read_log(line, props).outcome {
-            Outcome::Accepted => line.len(),
-            Outcome::Refused(refusal) => refusal.place,
+            Ok(()) => line.len(),
+            Err(refusal) => refusal.place,
         };
     }
     0

@@ -5,7 +5,7 @@ ghost use Rattle.radio.specs.Kept.{open_piece, piece_of, Fit};
 
 use crate::Radio;
 use crate::line::{good_of, joined, size_of};
-use answers::{Kind, Outcome, Refusal};
+use answers::{Kind, Refusal};
 
 // The radio behind a piece, how many bytes the piece has, and whether the line that is kept is whole.
 #[derive(Clone, Copy)]
@@ -49,11 +49,11 @@ pub fn piece(radio: Radio, rest: &[u8], props: usize) -> Pieced
     ensures { result ≡ piece_of (width_of props) radio.standing radio rest.now }
 {
     match radio.standing {
-        Outcome::Refused(_) => Pieced {
+        Err(_) => Pieced {
             radio,
             took: rest.len(),
             whole: false,
         },
-        Outcome::Accepted => open_piece(radio, rest, props),
+        Ok(()) => open_piece(radio, rest, props),
     }
 }

@@ -7,7 +7,7 @@ use native.Mathlib.Omega.{arith}
 use Rattle.std.proofs.Math.ListN.{get_or}
 use borrow.Author.Tests.{lt-ltb}
 use Rattle.words.specs.Lists.{list_of}
-use Rattle.answers.specs.declared.Outcome.{Outcome}
+use Rattle.answers.specs.Results.{Outcome}
 use Rattle.radio.specs.declared.Form.{Form}
 use Rattle.radio.specs.declared.Form.TheVariants.{Unknown, Plain, Numbered}
 use Rattle.radio.specs.declared.Radio.{Radio}

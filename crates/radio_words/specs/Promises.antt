@@ -1,7 +1,7 @@
 -- WHAT WAS PUT IN IS READ BACK: `radio_back` (proofs/Promises), for every radio in which nothing stands but the refusal of an event or of a byte; its words can all stand
 -- where they do (`words_stand`), and the other words of the box stay (`others_stay`).
 use Prim.Native.Nat.{ℕ, zero, suc, ◌+◌, ◌-◌, ◌*◌, ◌/◌, ◌%◌, ◌^◌, ◌≤◌, ◌<◌}
-use Rattle.std.specs.Prelude.{◌≡◌, true, cond, ◌&&◌, ◌||◌, ◌⊎◌, List, eqb, ltb, length}
+use Rattle.std.specs.Prelude.{◌≡◌, true, cond, ◌&&◌, ◌||◌, ◌⊎◌, List, eqb, ltb, length, Ok, Err}
 use Rattle.std.proofs.Math.Path.{refl, ap}
 use Rattle.std.proofs.Common.{sym, subst, ◌∙◌, inl, inr, pow-add}
 use native.Mathlib.Omega.{arith}
@@ -10,8 +10,7 @@ use Rattle.std.proofs.Math.ListN.{get_or}
 use borrow.Author.Tests.{lt-ltb, le-ltb}
 use Rattle.words.specs.Lists.{list_at}
 use Rattle.answers.specs.declared.Kind.TheVariants.{IllegalEvent, LogText, Number}
-use Rattle.answers.specs.declared.Outcome.{Outcome}
-use Rattle.answers.specs.declared.Outcome.TheVariants.{Accepted, Refused}
+use Rattle.answers.specs.Results.{Outcome}
 use Rattle.answers.specs.Paper.{refused_at}
 use Rattle.radio.specs.declared.Form.{Form}
 use Rattle.radio.specs.declared.Form.TheVariants.{Unknown, Plain, Numbered}
@@ -20,10 +19,10 @@ use Rattle.radio_words.specs.Words.{can_stand, pack_below, form_code, standing_c
 
 -- what can stand: nothing, an event's refusal, 10 or 16, or a byte's, 12
 pub data Stands : Outcome → Type 0 where
-  nothing : Stands Accepted
-  illegal : (place : ℕ) → Stands (Refused (refused_at IllegalEvent place))
-  byte : (place : ℕ) → Stands (Refused (refused_at LogText place))
-  number : (place : ℕ) → Stands (Refused (refused_at Number place))
+  nothing : Stands (Ok tt)
+  illegal : (place : ℕ) → Stands (Err (refused_at IllegalEvent place))
+  byte : (place : ℕ) → Stands (Err (refused_at LogText place))
+  number : (place : ℕ) → Stands (Err (refused_at Number place))
 
 -- what can be put in: forty bytes, as the type tells, and what can stand
 pub record Sendable (r : Radio) : Type 0 where

@@ -1,6 +1,6 @@
 -- WHAT THE CALLS PUT IN CAN BE PUT IN: the radio that has heard nothing is one (`silent_sendable`), and so is that behind every scrap of one (`take_sendable`). So with
 -- `radio_back` a box that is kept between any two scraps gives the radio back as it was.
-use Rattle.std.specs.Prelude.{ℕ, zero, suc, ◌+◌, ◌<◌, ◌≡◌, Bool, cond, ltb, length, take, get_or, replicate}
+use Rattle.std.specs.Prelude.{ℕ, zero, suc, ◌+◌, ◌<◌, ◌≡◌, Bool, cond, ltb, length, take, get_or, replicate, Ok, Err}
 use Rattle.std.proofs.Common.{arith, ap}
 use Rattle.std.proofs.Math.Decide.{dec_lt}
 use Rattle.std.proofs.Math.Path.{refl, subst}
@@ -13,10 +13,8 @@ use Rattle.pairs.specs.declared.Pairs.{Pairs}
 use Rattle.answers.specs.declared.Kind.{Kind}
 use Rattle.answers.specs.declared.Kind.TheVariants.{IllegalEvent, LogText, Number}
 use Rattle.answers.specs.declared.Refusal.{Refusal}
-use Rattle.answers.specs.declared.Answer.{Answer}
-use Rattle.answers.specs.declared.Answer.TheVariants as Answers
-use Rattle.answers.specs.declared.Outcome.{Outcome}
-use Rattle.answers.specs.declared.Outcome.TheVariants.{Accepted, Refused}
+use Rattle.answers.specs.Results.{Answer}
+use Rattle.answers.specs.Results.{Outcome}
 use Rattle.answers.specs.Paper.{refused_at}
 use Rattle.plant.specs.declared.Plant.{Plant}
 use Rattle.syntax.specs.declared.Rule.{Rule}
@@ -79,16 +77,16 @@ record Sound (h : Heard) : Type 0 where
 
 -- an answer that refuses an event does so by 10 or 16
 abbrev Refuses : Answer → Type 0
-Refuses a = (r : Refusal) → a ≡ Answers.Refused r → (place : ℕ) → Stands (Refused (refused_at r.kind place))
+Refuses a = (r : Refusal) → a ≡ Err r → (place : ℕ) → Stands (Err (refused_at r.kind place))
 
 module _ (w : ℕ) (step : Monitor → Event → Watched) (refuses : (m : Monitor) (e : Event) → Refuses (step m e).answer) where
   sound_answered : (h : Heard) (q : List ℕ) (s : Watched) (a : Answer) → Refuses a → Sound (answered h q s a)
-  sound_answered h q s (Answers.Shown l) by = record { bytes = none; stands = nothing }
-  sound_answered h q s (Answers.Refused r) by = record { bytes = none; stands = by r refl h.ear.start }
+  sound_answered h q s (Ok l) by = record { bytes = none; stands = nothing }
+  sound_answered h q s (Err r) by = record { bytes = none; stands = by r refl h.ear.start }
 
   sound_byte : (h : Heard) (b : ℕ) (o : Outcome) → b < 256 → Sound h → Sound (byte_heard w step o h b)
-  sound_byte h b (Refused r) l sound = sound
-  sound_byte h b Accepted l sound = by_tests (begins w h.ear.form q) (ltb (length q) (bytes_in w q))
+  sound_byte h b (Err r) l sound = sound
+  sound_byte h b (Ok _) l sound = by_tests (begins w h.ear.form q) (ltb (length q) (bytes_in w q))
     where
       q : List ℕ
       q = h.ear.part ++ b ∷ []
@@ -106,8 +104,8 @@ module _ (w : ℕ) (step : Monitor → Event → Watched) (refuses : (m : Monito
 -- ---- by what an event is refused
 
 abbrev kind_in : Answer → Kind
-kind_in (Answers.Refused r) = r.kind
-kind_in (Answers.Shown l) = Number
+kind_in (Err r) = r.kind
+kind_in (Ok l) = Number
 
 module _ (p : Plant) (label next : List ℕ) (ways : Ways) (live : Pairs) (m : Monitor) (e : Event) where
   turn_refuses : Refuses (turn p label next ways live m e).answer
@@ -115,15 +113,15 @@ module _ (p : Plant) (label next : List ℕ) (ways : Ways) (live : Pairs) (m : M
   turn_refuses = by_tests (legal_of e p.props) (in_turn m.seen m.expected (number_of e.num m.expected))
     where
       by_tests : (legal fits : Bool)
-          → Refuses (turn_of (cond legal (cond fits Accepted (Refused (refused_at Number 0))) (Refused (refused_at IllegalEvent 0))) m (taken_in label next ways live.words m e)).answer
-      by_tests true true r is place = subst (λ (k : Kind). Stands (Refused (refused_at k place))) (ap kind_in is) (number place)
-      by_tests true false r is place = subst (λ (k : Kind). Stands (Refused (refused_at k place))) (ap kind_in is) (number place)
-      by_tests false fits r is place = subst (λ (k : Kind). Stands (Refused (refused_at k place))) (ap kind_in is) (illegal place)
+          → Refuses (turn_of (cond legal (cond fits (Ok tt) (Err (refused_at Number 0))) (Err (refused_at IllegalEvent 0))) m (taken_in label next ways live.words m e)).answer
+      by_tests true true r is place = subst (λ (k : Kind). Stands (Err (refused_at k place))) (ap kind_in is) (number place)
+      by_tests true false r is place = subst (λ (k : Kind). Stands (Err (refused_at k place))) (ap kind_in is) (number place)
+      by_tests false fits r is place = subst (λ (k : Kind). Stands (Err (refused_at k place))) (ap kind_in is) (illegal place)
 
 -- ---- the calls
 
 -- the radio that has heard nothing
-pub silent_sendable : (m : Monitor) → Sendable (record { part = replicate 40 0; len = 0; start = 0; form = Unknown; standing = Accepted; monitor = m })
+pub silent_sendable : (m : Monitor) → Sendable (record { part = replicate 40 0; len = 0; start = 0; form = Unknown; standing = Ok tt; monitor = m })
 silent_sendable m = record { long = length-replicate {A = ℕ} 40 0; small = λ i. rw (zeros 40 i) (omega arith); stands = nothing }
 
 module _ (p : Plant) (fair label next : List ℕ) (rule : Rule) (full : length rule.nodes ≡ 32) (live : Pairs) (r : Radio) (sends : Sendable r) (scrap : List ℕ) (small : (i : ℕ) → get_or scrap i 0 < 256) (room : ℕ) where
@@ -135,8 +133,8 @@ module _ (p : Plant) (fair label next : List ℕ) (rule : Rule) (full : length r
       behind = hear_all (width_of p.props) (step_call p fair label next rule live) (heard_by r []) scrap
 
       by_outcome : (o : Outcome) → take_outcome p fair label next rule live r scrap room ≡ o → Sendable (took_by o r behind).taken.radio
-      by_outcome (Refused x) e = sends
-      by_outcome Accepted e =
+      by_outcome (Err x) e = sends
+      by_outcome (Ok _) e =
           let g = fitting p fair label next rule live r (take_parts p fair label next rule live r scrap room e).0 in
           let called = all_called p fair label next rule ((input_accepted p fair label next rule full).0 g.input) live g.lives (width_of p.props) scrap (heard_by r []) g.held in
           let sound = subst Sound called

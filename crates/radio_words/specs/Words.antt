@@ -1,9 +1,8 @@
 -- A radio in ten words of a box, from word 363 on: what any words say, and the words for a radio.
-use Rattle.std.specs.Prelude.{ℕ, zero, suc, ◌+◌, ◌-◌, ◌*◌, ◌/◌, ◌%◌, ◌^◌, Bool, cond, ◌&&◌, ◌||◌, List, eqb, ltb, get_or}
+use Rattle.std.specs.Prelude.{ℕ, zero, suc, ◌+◌, ◌-◌, ◌*◌, ◌/◌, ◌%◌, ◌^◌, Bool, cond, ◌&&◌, ◌||◌, List, eqb, ltb, get_or, Ok, Err}
 use Rattle.words.specs.Below.{list_below}
 use Rattle.answers.specs.declared.Kind.TheVariants.{IllegalEvent, LogText, Number}
-use Rattle.answers.specs.declared.Outcome.{Outcome}
-use Rattle.answers.specs.declared.Outcome.TheVariants.{Accepted, Refused}
+use Rattle.answers.specs.Results.{Outcome}
 use Rattle.answers.specs.Paper.{kind_number, refused_at}
 use Rattle.sides.specs.declared.Monitor.{Monitor}
 use Rattle.radio.specs.declared.Form.{Form}
@@ -25,7 +24,7 @@ form_in c = cond (eqb c 1) Plain (cond (eqb c 2) Numbered Unknown)
 -- an event's refusal, or a byte's; any other number stands for none
 unfoldable pub standing_in : ℕ → ℕ → Outcome
 standing_in c place =
-    cond (eqb c 10) (Refused (refused_at IllegalEvent place)) (cond (eqb c 12) (Refused (refused_at LogText place)) (cond (eqb c 16) (Refused (refused_at Number place)) Accepted))
+    cond (eqb c 10) (Err (refused_at IllegalEvent place)) (cond (eqb c 12) (Err (refused_at LogText place)) (cond (eqb c 16) (Err (refused_at Number place)) (Ok tt)))
 
 unfoldable pub radio_in : List ℕ → Monitor → Radio
 radio_in w m = record { part = part_in w; len = get_or w 368 0; start = get_or w 369 0; form = form_in (get_or w 370 0); standing = standing_in (get_or w 371 0) (get_or w 372 0); monitor = m }
@@ -52,12 +51,12 @@ form_code Plain = 1
 form_code Numbered = 2
 
 abbrev pub standing_code : Outcome → ℕ
-standing_code Accepted = 0
-standing_code (Refused r) = kind_number r.kind
+standing_code (Ok _) = 0
+standing_code (Err r) = kind_number r.kind
 
 abbrev pub standing_place : Outcome → ℕ
-standing_place Accepted = 0
-standing_place (Refused r) = r.place
+standing_place (Ok _) = 0
+standing_place (Err r) = r.place
 
 unfoldable pub radio_word : Radio → ℕ → ℕ
 radio_word r k =

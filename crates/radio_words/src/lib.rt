@@ -5,7 +5,7 @@
 ghost use Rattle.std.specs.Prelude.{◌≡◌, ◌+◌, ◌<◌};
 ghost use Rattle.radio_words.specs.Words.{byte_in, part_in, form_in, standing_in, radio_in, can_stand, packed_at, form_code, standing_code, standing_place, radio_word, with_radio};
 
-use answers::{Kind, Outcome, Refusal};
+use answers::{Kind, Refusal};
 use radio::{Form, Radio};
 use sides::Monitor;
 use std::array;
@@ -38,14 +38,14 @@ fn form_in(code: u64) -> Form
 
 // What can stand is an event's refusal, 10 or 16, or a byte's, 12.
 #[tactic(auto, unfolding(crate::specs::Words::standing_in))]
-fn standing_in(code: u64, place: usize) -> Outcome
+fn standing_in(code: u64, place: usize) -> Result<(), Refusal>
     ensures { result ≡ standing_in code place }
 {
     match code {
-        10 => Outcome::Refused(Refusal::at(Kind::IllegalEvent, place)),
-        12 => Outcome::Refused(Refusal::at(Kind::LogText, place)),
-        16 => Outcome::Refused(Refusal::at(Kind::Number, place)),
-        _ => Outcome::Accepted,
+        10 => Err(Refusal::at(Kind::IllegalEvent, place)),
+        12 => Err(Refusal::at(Kind::LogText, place)),
+        16 => Err(Refusal::at(Kind::Number, place)),
+        _ => Ok(()),
     }
 }
 
@@ -94,21 +94,21 @@ fn form_code(form: Form) -> u64
     }
 }
 
-fn standing_code(standing: Outcome) -> u64
+fn standing_code(standing: Result<(), Refusal>) -> u64
     ensures { result ≡ standing_code standing }
 {
     match standing {
-        Outcome::Accepted => 0,
-        Outcome::Refused(refusal) => u64::from(refusal.kind.number()),
+        Ok(()) => 0,
+        Err(refusal) => u64::from(refusal.kind.number()),
     }
 }
 
-fn standing_place(standing: Outcome) -> u64
+fn standing_place(standing: Result<(), Refusal>) -> u64
     ensures { result ≡ standing_place standing }
 {
     match standing {
-        Outcome::Accepted => 0,
-        Outcome::Refused(refusal) => refusal.place as u64,
+        Ok(()) => 0,
+        Err(refusal) => refusal.place as u64,
     }
 }
 

@@ -2,7 +2,7 @@
 use Rattle.std.specs.Prelude.{ℕ, ◌≡◌, ◌↔◌}
 use Rattle.std.proofs.Common.{sym, ap, ap₂, subst, ◌∙◌}
 use Rattle.answers.specs.declared.Kind.{Kind}
-use Rattle.answers.specs.declared.Outcome.{Outcome}
+use Rattle.answers.specs.Results.{Outcome}
 use Rattle.answers.specs.Paper.{Paper, refused, kind_number}
 use Rattle.answers.proofs.Promises.{one_kind}
 use Rattle.refusals.specs.Causes.{Rows, First, Because}

@@ -2,7 +2,7 @@
 use Prim.Native.Nat.{ℕ, ◌^◌, ◌≤◌, ◌<◌}
 use Prim.{Unit}
 use Rattle.std.proofs.Common.{arith, sym, ◌∙◌, inl, inr}
-use Rattle.std.specs.Prelude.{◌≡◌, refl, ◌↔◌, ◌⊎◌, Bool, true, false, ◌&&◌, not, cond, leb, ltb, length, get_or}
+use Rattle.std.specs.Prelude.{◌≡◌, refl, ◌↔◌, ◌⊎◌, Bool, true, false, ◌&&◌, not, cond, leb, ltb, length, get_or, Result, Ok, Err}
 use Rattle.std.proofs.Math.Path.{ap, subst}
 use Rattle.std.proofs.Math.Logic.{⊎_elim}
 use Rattle.std.proofs.Math.Bool.{So}
@@ -29,8 +29,7 @@ use Rattle.model.specs.Reaching.{meet_says}
 use Rattle.model.specs.Witness.{has_live}
 use Rattle.answers.specs.declared.Kind.{Kind}
 use Rattle.answers.specs.declared.Kind.TheVariants.{Counts, Bits, Value, IllegalEvent, Room, NoPair, Number}
-use Rattle.answers.specs.declared.Outcome.{Outcome}
-use Rattle.answers.specs.declared.Outcome.TheVariants.{Accepted, Refused}
+use Rattle.answers.specs.Results.{Outcome}
 use Rattle.answers.specs.Paper.{Paper, refused, kind_number, paper, outcome}
 use Rattle.answers.specs.Chain.{refused_as, differ, and_then, unless}
 use Rattle.plant.specs.declared.Plant.{Plant}
@@ -43,7 +42,6 @@ use Rattle.syntax.specs.Grammar.{names}
 use Rattle.syntax.specs.Print.{print}
 use Rattle.syntax.specs.Value.{formula_of}
 use Rattle.rule.specs.declared.Length.{Length}
-use Rattle.rule.specs.declared.Printed.TheVariants.{Text}
 use Rattle.rule_value.specs.Valid.{valid_of, RuleValue}
 use Rattle.rule.specs.Printing.{top_text, text_of, no_print, print_answer}
 use Rattle.rule.specs.OnPaper.{printed}
@@ -58,7 +56,8 @@ use Rattle.event_numbers.specs.Numbers.{number_of, in_turn, in_turn_says}
 use Rattle.live.specs.Prepare.{prepared_of}
 use Rattle.live.specs.Promises.{prepare_outcome}
 use Rattle.monitor.specs.Calls.{watched, lit, checked_of, open_call, monitor_fits, look_call, step_checked, step_call}
-use Rattle.witness.specs.declared.Witnessed.{Witnessed}
+use Rattle.walk.specs.declared.Lengths.{Lengths}
+use Rattle.answers.specs.declared.Refusal.{Refusal}
 use Rattle.witness.specs.Calls.{AnsweredAs, Answered, asked_of, witness_outcome}
 use Rattle.witness.specs.OnPaper.{witnessed}
 use Rattle.refusals.specs.Causes.{Rows, row, First, Because, NoCause, Taken, Call, prepare, opening, look, step, witness, table, formula, of_table, NoRule, PairBeyond, StateBeyond, OutOfTurn, NoLive, causes, print_causes, write_causes}
@@ -83,25 +82,25 @@ Arrays (witness m keeps buffer) = Full m.keeps × Full m.breaks
 -- what an outcome comes to in an answer
 
 outcome_tells : (o : Outcome) → Tells (outcome o) o
-outcome_tells Accepted = accepted_taken _
-outcome_tells (Refused r) = refl
+outcome_tells (Ok _) = accepted_taken _
+outcome_tells (Err r) = refl
 
 watched_tells : (o : Outcome) (old : Monitor) (expected : ℕ) (new : model.Monitor) → Tells (paper (watched o old expected new).answer) o
-watched_tells Accepted old expected new = verdict_taken _ _
-watched_tells (Refused r) old expected new = refl
+watched_tells (Ok _) old expected new = verdict_taken _ _
+watched_tells (Err r) old expected new = refl
 
 lit_tells : (o : Outcome) (m : model.Monitor) → Tells (paper (lit o m)) o
-lit_tells Accepted m = verdict_taken _ _
-lit_tells (Refused r) m = refl
+lit_tells (Ok _) m = verdict_taken _ _
+lit_tells (Err r) m = refl
 
-answered_tells : (T : run.Plant) (f : Formula) (asked before now : List ℕ) (r : Witnessed) (o : Outcome) → AnsweredAs T f asked o before now r → Tells (witnessed r) o
-answered_tells T f asked before now r Accepted (l, e, shows) = subst (λ (r : Witnessed). Taken (witnessed r)) (sym e) (accepted_taken _)
-answered_tells T f asked before now r (Refused x) (e, same) = ap witnessed e
+answered_tells : (T : run.Plant) (f : Formula) (asked before now : List ℕ) (r : Result Lengths Refusal) (o : Outcome) → AnsweredAs T f asked o before now r → Tells (witnessed r) o
+answered_tells T f asked before now r (Ok _) (l, e, shows) = subst (λ (r : Result Lengths Refusal). Taken (witnessed r)) (sym e) (accepted_taken _)
+answered_tells T f asked before now r (Err x) (e, same) = ap witnessed e
 
 -- 1 AND 2, OF EVERY CALL THAT TAKES A TABLE
 
 module _ (p : Plant) (fair label next : List ℕ) where
-  judged_table : {rest : Rows} {o : Outcome} → (table_outcome p fair label next ≡ Accepted → Judged rest o) → Judged (of_table p fair label next rest) (and_then (table_outcome p fair label next) o)
+  judged_table : {rest : Rows} {o : Outcome} → (table_outcome p fair label next ≡ Ok tt → Judged rest o) → Judged (of_table p fair label next rest) (and_then (table_outcome p fair label next) o)
   unfolding First NoCause
   judged_table {rest} {o} more = ⊎_elim (λ d. ⊎_elim fine counts d) bits (one_of_three p fair label next)
     where
@@ -114,14 +113,14 @@ module _ (p : Plant) (fair label next : List ℕ) where
       bits : table_outcome p fair label next ≡ refused_as Bits → Judged (of_table p fair label next rest) (and_then (table_outcome p fair label next) o)
       bits e = let (l, b) = (bits_refused p fair label next).0 e in by_row Bits (inr (λ z. z l, inl (refl, b))) (behind e)
 
-      fine : table_outcome p fair label next ≡ Accepted → Judged (of_table p fair label next rest) (and_then (table_outcome p fair label next) o)
+      fine : table_outcome p fair label next ≡ Ok tt → Judged (of_table p fair label next rest) (and_then (table_outcome p fair label next) o)
       fine e = on (more e)
         where
           no_counts : (Lengths p (length fair) (length label) (length next) → ⊥) → ⊥
-          no_counts z = differ Accepted (refused_as Counts) (λ n. omega arith) e ((counts_refused p fair label next).1 z)
+          no_counts z = differ (Ok tt) (refused_as Counts) (λ n. omega arith) e ((counts_refused p fair label next).1 z)
 
           no_bits : BitBeyond p fair label next → ⊥
-          no_bits b = no_counts (λ l. differ Accepted (refused_as Bits) (λ n. omega arith) e ((bits_refused p fair label next).1 (l, b)))
+          no_bits b = no_counts (λ l. differ (Ok tt) (refused_as Bits) (λ n. omega arith) e ((bits_refused p fair label next).1 (l, b)))
 
           on : Judged rest o → Judged (of_table p fair label next rest) (and_then (table_outcome p fair label next) o)
           on (by_row k g h) = by_row k (inr (no_counts, inr (no_bits, g))) (behind e ∙ h)
@@ -136,7 +135,7 @@ module _ (p : Plant) (fair label next : List ℕ) (rule : Rule) where
   Answers (opening live) a = a ≡ paper (open_call p fair label next rule live).answer
   Answers (look m) a = a ≡ paper (look_call p fair label next rule m)
   Answers (step live m e) a = a ≡ paper (step_call p fair label next rule live m e).answer
-  Answers (witness m keeps buffer) a = (r : Witnessed) × (now : List ℕ) × Answered p fair label next rule m keeps buffer now r × (a ≡ witnessed r)
+  Answers (witness m keeps buffer) a = (r : Result Lengths Refusal) × (now : List ℕ) × Answered p fair label next rule m keeps buffer now r × (a ≡ witnessed r)
 
   abbrev T : run.Plant
   T = table p fair label next rule
@@ -257,12 +256,12 @@ module _ (p : Plant) (fair label next : List ℕ) (rule : Rule) where
         chained = ap (λ x. and_then x o) (in_turn_lem checked (unless valid Value) (unless sets Value) ∙ ap (and_then checked) (one_check valid sets Value)) ∙ in_turn_lem checked (unless (valid && sets) Value) o
 
     -- a chain that ends
-    ended : {rs : Rows} {o : Outcome} → Judged rs (and_then o Accepted) → Judged rs o
+    ended : {rs : Rows} {o : Outcome} → Judged rs (and_then o (Ok tt)) → Judged rs o
     ended {rs} {o} j = subst (Judged rs) (no_more o) j
 
     judged : (c : Call) → Arrays c → Judged (causes p fair label next rule c) (checks_of c)
     unfolding input_outcome asked_of witness_outcome
-    judged prepare z = ended (subst (Judged _) (sym (in_turn_lem checked (unless valid Value) Accepted)) (judged_table p fair label next (λ e. judged_row Value valid finds_rule (λ so. judged_end_lem))))
+    judged prepare z = ended (subst (Judged _) (sym (in_turn_lem checked (unless valid Value) (Ok tt))) (judged_table p fair label next (λ e. judged_row Value valid finds_rule (λ so. judged_end_lem))))
     judged (opening live) z = ended (judged_value (finds_beyond live z) (λ i. judged_end_lem))
     judged (look m) z = ended (judged_value (finds_state m z) (λ i. judged_end_lem))
     judged (step live m e) (l, z) =
@@ -293,12 +292,12 @@ module _ (rule : Rule) (buffer : List ℕ) (full : length rule.nodes ≡ 32) whe
   short = ltb (length buffer) (length (text_of rule))
 
   abbrev print_checks : Outcome
-  print_checks = and_then (unless printable Value) (and_then (unless (not short) Room) Accepted)
+  print_checks = and_then (unless printable Value) (and_then (unless (not short) Room) (Ok tt))
 
   print_tells : Tells (printed (print_answer rule buffer)) print_checks
   print_tells = by_tests printable short (record { bytes = length (text_of rule) })
     where
-      by_tests : (v s : Bool) (n : Length) → Tells (printed (cond v (cond s (no_print Room) (Text n)) (no_print Value))) (and_then (unless v Value) (and_then (unless (not s) Room) Accepted))
+      by_tests : (v s : Bool) (n : Length) → Tells (printed (cond v (cond s (no_print Room) (Ok n)) (no_print Value))) (and_then (unless v Value) (and_then (unless (not s) Room) (Ok tt)))
       by_tests true true n = refl
       by_tests true false n = accepted_taken _
       by_tests false s n = refl
@@ -327,8 +326,8 @@ module _ (p : Plant) (fair label next buffer : List ℕ) where
   write_tells = by_case (write_outcome p fair label next buffer)
     where
       by_case : (o : Outcome) → Tells (wrote (told_by p fair label next buffer o)) o
-      by_case Accepted = accepted_taken _
-      by_case (Refused r) = refl
+      by_case (Ok _) = accepted_taken _
+      by_case (Err r) = refl
 
   finds_room : Finds fits_in (length buffer < length (its_text p fair label next buffer))
   finds_room = record { fails = leb-false _ _; holds = λ so l. let h = leb-true (length (its_text p fair label next buffer)) (length buffer) so in omega arith }

@@ -1,12 +1,11 @@
 -- How a chain of checks follows a table of causes, row by row.
-use Rattle.std.specs.Prelude.{ℕ, ◌≡◌, refl, ◌↔◌, ◌⊎◌, Bool, true, false, ◌&&◌, not, List}
+use Rattle.std.specs.Prelude.{ℕ, ◌≡◌, refl, ◌↔◌, ◌⊎◌, Bool, true, false, ◌&&◌, not, List, Ok, Err}
 use Rattle.std.proofs.Common.{sym, ap, subst, ◌∙◌, inl, inr}
 use Rattle.std.proofs.Math.Bool.{So}
 use Rattle.std.proofs.lemmas.Bool.{false≢true}
 use Rattle.meaning.specs.Says.{Says}
 use Rattle.answers.specs.declared.Kind.{Kind}
-use Rattle.answers.specs.declared.Outcome.{Outcome}
-use Rattle.answers.specs.declared.Outcome.TheVariants.{Accepted, Refused}
+use Rattle.answers.specs.Results.{Outcome}
 use Rattle.answers.specs.Paper.{Paper, verdict, refused, accepted, kind_number, refusal}
 use Rattle.answers.specs.Chain.{refused_as, and_then, unless}
 use Rattle.refusals.specs.Causes.{Rows, end, row, First, NoCause, Taken}
@@ -34,7 +33,7 @@ first_one (row i cause rest) j k (inr (z, f)) (inr (_, g)) = first_one rest j k 
 -- what the checks come to is what the table says: one of these always is the case
 pub data Judged (rs : Rows) (o : Outcome) : Type 0 where
   by_row : (k : Kind) → First rs k → o ≡ refused_as k → Judged rs o
-  by_none : NoCause rs → o ≡ Accepted → Judged rs o
+  by_none : NoCause rs → o ≡ Ok tt → Judged rs o
 
 -- a test fails exactly if its cause applies
 pub record Finds (t : Bool) (cause : Type 0) : Type 0 where
@@ -60,7 +59,7 @@ finds_either {a = true} x y = record { fails = λ e. inr (y.fails e); holds = λ
 finds_either {a = false} x y = record { fails = λ e. inl (x.fails refl); holds = λ e. absurd (false≢true e) }
 
 -- no check is left
-pub judged_end_lem : Judged end Accepted
+pub judged_end_lem : Judged end (Ok tt)
 unfolding NoCause
 judged_end_lem = by_none tt refl
 
@@ -80,19 +79,19 @@ one_check true b k = refl
 one_check false b k = refl
 
 pub in_turn_lem : (a b c : Outcome) → and_then (and_then a b) c ≡ and_then a (and_then b c)
-in_turn_lem Accepted b c = refl
-in_turn_lem (Refused r) b c = refl
+in_turn_lem (Ok _) b c = refl
+in_turn_lem (Err r) b c = refl
 
-pub no_more : (o : Outcome) → and_then o Accepted ≡ o
-no_more Accepted = refl
-no_more (Refused r) = refl
+pub no_more : (o : Outcome) → and_then o (Ok tt) ≡ o
+no_more (Ok _) = refl
+no_more (Err r) = refl
 
 -- ---- answers on paper
 
 -- the answer is a refusal exactly if the checks refuse, and then theirs
 abbrev pub Tells : Paper → Outcome → Type 0
-Tells a Accepted = Taken a
-Tells a (Refused r) = a ≡ refusal r
+Tells a (Ok _) = Taken a
+Tells a (Err r) = a ≡ refusal r
 
 -- which a paper without a refusal's number is not
 abbrev is_refused : Paper → Bool

@@ -2,7 +2,7 @@
 use mathlib.Core.Logic.Iff
 use Prim.Native.Nat.{ℕ, zero, suc, ◌+◌, ◌≤◌, ◌<◌, zero-le}
 use native.Mathlib.Omega.{arith}
-use Rattle.std.specs.Prelude.{◌≡◌, ◌↔◌, Bool, ◌||◌, cond, List, ◌++◌, ltb, get_or, drop, replicate}
+use Rattle.std.specs.Prelude.{◌≡◌, ◌↔◌, Bool, ◌||◌, cond, List, ◌++◌, ltb, get_or, drop, replicate, Ok, Err}
 use Rattle.std.proofs.Math.Path.{refl}
 use Rattle.std.proofs.Common.{sym, ap, subst, ◌∙◌, length-append}
 use Rattle.std.proofs.Math.Bool.{true, false, So}
@@ -18,8 +18,7 @@ use Rattle.meaning.specs.Event.{History, since}
 use Rattle.meaning.specs.Verdict.{Chosen, Right}
 use Rattle.answers.specs.declared.Kind.TheVariants.{Value, RunLength}
 use Rattle.answers.specs.declared.Verdict.{Verdict}
-use Rattle.answers.specs.declared.Outcome.{Outcome}
-use Rattle.answers.specs.declared.Outcome.TheVariants as Outcomes
+use Rattle.answers.specs.Results.{Outcome}
 use Rattle.answers.specs.Paper.{number_of, refused_at}
 use Rattle.answers.specs.Chain.{is_accepted}
 use Rattle.plant.specs.declared.Plant.{Plant}
@@ -69,16 +68,16 @@ decided_exactly claim v Correct Correct = by (confirmed_by claim v)
     by true = (λ e. (refl, refl, refl), λ h. refl)
     by false = (λ e. absurd (false≢true (ap accepts e)), λ h. absurd (false≢true h.2))
 
-behind_check : (o : Outcome) (j : Judged) → (unless_refused o j ≡ Accepted) ↔ ((o ≡ Outcomes.Accepted) × (j ≡ Accepted))
-behind_check Outcomes.Accepted j = (λ e. (refl, e), λ h. h.1)
-behind_check (Outcomes.Refused r) j = (λ e. absurd (false≢true (ap accepts e)), λ h. absurd (false≢true (ap is_accepted h.0)))
+behind_check : (o : Outcome) (j : Judged) → (unless_refused o j ≡ Accepted) ↔ ((o ≡ Ok tt) × (j ≡ Accepted))
+behind_check (Ok _) j = (λ e. (refl, e), λ h. h.1)
+behind_check (Err r) j = (λ e. absurd (false≢true (ap accepts e)), λ h. absurd (false≢true (ap is_accepted h.0)))
 
-pub checked_exactly : (claim : ℕ) (k b : Bool) → (report_checked claim k b ≡ Outcomes.Accepted) ↔ ((claim ≤ 3) × (too_long claim k b ≡ false))
+pub checked_exactly : (claim : ℕ) (k b : Bool) → (report_checked claim k b ≡ Ok tt) ↔ ((claim ≤ 3) × (too_long claim k b ≡ false))
 unfolding report_checked
 checked_exactly claim k b = by (ltb 3 claim) refl (too_long claim k b)
   where
     by : (x : Bool) → ltb 3 claim ≡ x → (y : Bool)
-        → (cond x (Outcomes.Refused (refused_at Value 0)) (cond y (Outcomes.Refused (refused_at RunLength 0)) Outcomes.Accepted) ≡ Outcomes.Accepted) ↔ ((claim ≤ 3) × (y ≡ false))
+        → (cond x (Err (refused_at Value 0)) (cond y (Err (refused_at RunLength 0)) (Ok tt)) ≡ Ok tt) ↔ ((claim ≤ 3) × (y ≡ false))
     by true e y = (λ g. absurd (false≢true (ap is_accepted g)), λ h. absurd (omega (arith, ltb-true 3 claim e, h.0)))
     by false e true = (λ g. absurd (false≢true (ap is_accepted g)), λ h. absurd (false≢true (sym h.1)))
     by false e false = (λ g. (ltb-false 3 claim e, refl), λ h. refl)

@@ -2,7 +2,7 @@
 use mathlib.Core.Logic.Iff
 use Prim.Native.Nat.{ℕ, zero, suc, ◌+◌, ◌≤◌, ◌<◌, zero-le}
 use native.Mathlib.Omega.{arith}
-use Rattle.std.specs.Prelude.{◌≡◌, ◌↔◌, ◌⊎◌, Bool, ◌||◌, cond, List, ◌++◌, eqb, get_or, drop, replicate}
+use Rattle.std.specs.Prelude.{◌≡◌, ◌↔◌, ◌⊎◌, Bool, ◌||◌, cond, List, ◌++◌, eqb, get_or, drop, replicate, Ok, Err}
 use Rattle.std.proofs.Math.Path.{refl}
 use Rattle.std.proofs.Common.{sym, ap, subst, ◌∙◌, length-append}
 use Rattle.std.proofs.Math.Logic.{inl, inr, ⊎_elim}
@@ -21,8 +21,7 @@ use Rattle.meaning.specs.Verdict.{Agreeing, Right}
 use Rattle.answers.specs.declared.Kind.TheVariants.{Value as ValueKind, RunLength}
 use Rattle.answers.specs.declared.Verdict.{Verdict}
 use Rattle.answers.specs.declared.Verdict.TheVariants.{Inconclusive, True, False, OutOfModel}
-use Rattle.answers.specs.declared.Outcome.{Outcome}
-use Rattle.answers.specs.declared.Outcome.TheVariants as Outcomes
+use Rattle.answers.specs.Results.{Outcome}
 use Rattle.answers.specs.Paper.{number_of, kind_number, refused_at}
 use Rattle.plant.specs.declared.Plant.{Plant}
 use Rattle.plant.specs.Table.{plant_of}
@@ -132,16 +131,16 @@ not_refused claim v Correct Correct n l e = by (confirmed_by claim v) e
     by false e = absurd (omega arith)
 
 -- an answer that is no refusal comes behind the check
-behind : (o : Outcome) (j a : Judged) → code a ≤ 4 → (unless_refused o j ≡ a) ↔ ((o ≡ Outcomes.Accepted) × (j ≡ a))
+behind : (o : Outcome) (j a : Judged) → code a ≤ 4 → (unless_refused o j ≡ a) ↔ ((o ≡ Ok tt) × (j ≡ a))
 unfolding code
-behind Outcomes.Accepted j a l = (λ e. (refl, e), λ h. h.1)
-behind (Outcomes.Refused r) j a l = (λ e. absurd (omega (arith, l, ap code e)), λ h. absurd (refuses h.0))
+behind (Ok _) j a l = (λ e. (refl, e), λ h. h.1)
+behind (Err r) j a l = (λ e. absurd (omega (arith, l, ap code e)), λ h. absurd (refuses h.0))
   where
     taken : Outcome → Bool
-    taken Outcomes.Accepted = true
-    taken (Outcomes.Refused r) = false
+    taken (Ok _) = true
+    taken (Err r) = false
 
-    refuses : Outcomes.Refused r ≡ Outcomes.Accepted → ⊥
+    refuses : Err r ≡ Ok tt → ⊥
     refuses e = false≢true (ap taken e)
 
 -- ---- the first rule that a run fails
@@ -350,7 +349,7 @@ module _ (p : Plant) (fair label next : List ℕ) (rule : Rule) (f : Formula) (i
 
     -- the check of the claim and the lengths, by its two tests
     abbrev tested : Bool → Bool → Outcome
-    tested x y = cond x (Outcomes.Refused (refused_at ValueKind 0)) (cond y (Outcomes.Refused (refused_at RunLength 0)) Outcomes.Accepted)
+    tested x y = cond x (Err (refused_at ValueKind 0)) (cond y (Err (refused_at RunLength 0)) (Ok tt))
 
     pub no_claim_exactly : (claim : ℕ) → (answer claim ≡ Refused (refused_at ValueKind 0)) ↔ (3 < claim)
     unfolding judged_at report_judged report_checked code

@@ -1,5 +1,5 @@
 -- What printing an accepted value does: its rule's text stands at the buffer's start.
-use Rattle.std.specs.Prelude.{ℕ, ◌≤◌, ◌<◌, ◌≡◌, refl, List, ◌++◌, Bool, true, false, T, ltb, length, drop}
+use Rattle.std.specs.Prelude.{ℕ, ◌≤◌, ◌<◌, ◌≡◌, refl, List, ◌++◌, Bool, true, false, T, ltb, length, drop, Ok, Err}
 use Rattle.std.proofs.Common.{sym, ap, subst, ◌∙◌, lt-ltb, le-ltb, ltb-true, ltb-false, arith}
 use Rattle.answers.specs.declared.Kind.TheVariants.{Value, Room}
 use Rattle.answers.specs.declared.Refusal.{Refusal}
@@ -10,7 +10,6 @@ use Rattle.syntax.specs.Print.{print}
 use Rattle.syntax.specs.Value.{held}
 use Rattle.printer.specs.Tell.{shares, Shows, Printable, Prints}
 use Rattle.printer.proofs.Printing.{room_is}
-use Rattle.rule.specs.declared.Printed.TheVariants.{Text, Refused}
 use Rattle.rule_value.specs.Valid.{valid_of, RuleValue}
 use Rattle.words.specs.Over.{over}
 use Rattle.rule.specs.Printing.{top_text, text_of, no_print, print_answer, print_buffer}
@@ -37,15 +36,15 @@ module _ {r : Rule} (v : RuleValue r names) where
 
 -- what is answered, and what is left in the buffer
 module _ (r : Rule) (old : List ℕ) where
-  pub not_valid : valid_of r names ≡ false → (x : Refusal) → x ≡ refused_at Value 0 → (Refused x ≡ print_answer r old) × (old ≡ print_buffer r old)
-  not_valid e x is = simp e (ap Refused is, refl)
+  pub not_valid : valid_of r names ≡ false → (x : Refusal) → x ≡ refused_at Value 0 → (Err x ≡ print_answer r old) × (old ≡ print_buffer r old)
+  not_valid e x is = simp e (ap Err is, refl)
 
   module _ (e : valid_of r names ≡ true) where
-    pub too_short : length old < length (text_of r) → (x : Refusal) → x ≡ refused_at Room 0 → (Refused x ≡ print_answer r old) × (old ≡ print_buffer r old)
-    too_short h x is = simp (e, lt-ltb (length old) (length (text_of r)) h) (ap Refused is, refl)
+    pub too_short : length old < length (text_of r) → (x : Refusal) → x ≡ refused_at Room 0 → (Err x ≡ print_answer r old) × (old ≡ print_buffer r old)
+    too_short h x is = simp (e, lt-ltb (length old) (length (text_of r)) h) (ap Err is, refl)
 
-    pub fitting : length (text_of r) ≤ length old → (n : ℕ) (b : List ℕ) → n ≡ length (text_of r) → b ≡ over (text_of r) old → (Text (record { bytes = n }) ≡ print_answer r old) × (b ≡ print_buffer r old)
-    fitting h n b is whole = simp (e, le-ltb (length old) (length (text_of r)) h) (ap (λ k. Text (record { bytes = k })) is, whole)
+    pub fitting : length (text_of r) ≤ length old → (n : ℕ) (b : List ℕ) → n ≡ length (text_of r) → b ≡ over (text_of r) old → (Ok (record { bytes = n }) ≡ print_answer r old) × (b ≡ print_buffer r old)
+    fitting h n b is whole = simp (e, le-ltb (length old) (length (text_of r)) h) (ap (λ k. Ok (record { bytes = k })) is, whole)
 
 -- one of these always is the case: no rule's value, no room, or the text
 pub data Printing (r : Rule) (old : List ℕ) : Type 0 where
@@ -78,8 +77,8 @@ module _ (r : Rule) (old : List ℕ) where
     answer_room h = let p = too_short r old (rule_valid v) (omega (arith, ap length (text_is v))) (refused_at Room 0) refl in (sym p.0, sym p.1)
 
     pub answer_text : length (print v.formula) ≤ length old
-        → (print_answer r old ≡ Text (record { bytes = length (print v.formula) })) × (print_buffer r old ≡ over (print v.formula) old)
+        → (print_answer r old ≡ Ok (record { bytes = length (print v.formula) })) × (print_buffer r old ≡ over (print v.formula) old)
     answer_text h =
         let e = text_is v in
         let p = fitting r old (rule_valid v) (omega (arith, ap length e)) (length (text_of r)) (over (text_of r) old) refl refl in
-        (sym p.0 ∙ ap (λ t. Text (record { bytes = length t })) e, sym p.1 ∙ ap (λ t. over t old) e)
+        (sym p.0 ∙ ap (λ t. Ok (record { bytes = length t })) e, sym p.1 ∙ ap (λ t. over t old) e)

@@ -1,7 +1,7 @@
 -- What the calls on rules promise. Their contracts are equations: read_rule answers `rule_read`, is_valid `valid_of`, print_rule `print_answer`, and leaves `print_buffer`.
 -- What these mean is said here by short definitions (01, Rule text): `syntax/specs/Grammar` says what a text of the grammar is (`SaidBy f s`: the rule f is said by the text s), `syntax/specs/Value` what a rule's
 -- value is (`rule_of f`), `rule_text/specs/Paper` what each refusal is given for (`Because`), and what it is for a text to be accepted (`Takes`).
-use Rattle.std.specs.Prelude.{ℕ, ◌≤◌, ◌<◌, ◌≡◌, refl, ◌↔◌, List, Bool, true, false, T, length}
+use Rattle.std.specs.Prelude.{ℕ, ◌≤◌, ◌<◌, ◌≡◌, refl, ◌↔◌, List, Bool, true, false, T, length, Result, Ok, Err}
 use Rattle.std.proofs.Common.{sym, ap, subst, ◌∙◌, arith}
 use Rattle.answers.specs.declared.Kind.{Kind}
 use Rattle.answers.specs.declared.Kind.TheVariants.{Value, Room}
@@ -16,8 +16,8 @@ use Rattle.syntax.specs.Value.{rule_of}
 use Rattle.syntax.proofs.OnePlace.{one_place, one_unknown}
 use Rattle.syntax.proofs.Parse.{one_rule}
 use Rattle.syntax.proofs.Printed.{printed, short, longest, below_more}
-use Rattle.rule.specs.declared.Printed.{Printed}
-use Rattle.rule.specs.declared.Printed.TheVariants.{Text, Refused as NoText}
+use Rattle.rule.specs.declared.Length.{Length}
+use Rattle.answers.specs.declared.Refusal.{Refusal}
 use Rattle.rule_text.specs.Reading.{no_rule, accepted, text_read, rule_read}
 use Rattle.rule_value.specs.Valid.{valid_of, RuleValue}
 use Rattle.words.specs.Over.{over}
@@ -29,13 +29,13 @@ use Rattle.rule.proofs.Prints.{text_is, Printing, no_rule_lem, no_room, its_text
 use Rattle.rule_text.proofs.Answering as answering
 
 -- what stands in an answer of print_rule
-abbrev is_text : Printed → Bool
-is_text (Text n) = true
-is_text (NoText x) = false
+abbrev is_text : Result Length Refusal → Bool
+is_text (Ok n) = true
+is_text (Err x) = false
 
-abbrev print_number : Printed → ℕ
-print_number (Text n) = 0
-print_number (NoText x) = kind_number x.kind
+abbrev print_number : Result Length Refusal → ℕ
+print_number (Ok n) = 0
+print_number (Err x) = kind_number x.kind
 
 -- READING A TEXT
 
@@ -128,7 +128,7 @@ module _ (r : Rule) (old : List ℕ) (full : length r.nodes ≡ 32) where
 
   -- else the rule's text stands at the buffer's start, its length is answered, and the other bytes stay
   pub prints : (v : RuleValue r names) → length (print v.formula) ≤ length old
-      → (print_answer r old ≡ Text (record { bytes = length (print v.formula) })) × (print_buffer r old ≡ over (print v.formula) old)
+      → (print_answer r old ≡ Ok (record { bytes = length (print v.formula) })) × (print_buffer r old ≡ over (print v.formula) old)
   prints v h = answer_text r old v h
 
   -- with a refusal all bytes stay

@@ -10,11 +10,10 @@
 
 mod value;
 
-use answers::{Outcome, Refusal};
+use answers::Refusal;
 use cases::{field, number};
 use plant::Plant;
 use program::said::{put, put_decimal};
-use rule::Printed;
 use syntax::Rule;
 
 fn tell<P: Print>(to: &P, refusal: Refusal) {
@@ -35,8 +34,8 @@ fn show<P: Print>(to: &P, text: &[u8], n: usize) {
 
 fn print<P: Print>(to: &P, rule: Rule, buffer: &mut [u8]) {
     match rule::print_rule(rule, buffer) {
-        Printed::Text(text) => show(to, buffer, text.bytes),
-        Printed::Refused(refusal) => tell(to, refusal),
+        Ok(text) => show(to, buffer, text.bytes),
+        Err(refusal) => tell(to, refusal),
     }
 }
 
@@ -51,8 +50,8 @@ fn read<P: Print>(to: &P, props: usize, start: u64, text: &[u8]) {
     let reading = rule::read_rule(plant, &[], &[0, 1, 2], &[3, 6, 5], text);
     let mut buffer = [0u8; 109];
     match reading.outcome {
-        Outcome::Accepted => print(to, reading.rule, &mut buffer),
-        Outcome::Refused(refusal) => tell(to, refusal),
+        Ok(()) => print(to, reading.rule, &mut buffer),
+        Err(refusal) => tell(to, refusal),
     }
 }
 

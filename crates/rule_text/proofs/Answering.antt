@@ -1,9 +1,8 @@
 -- Each answer of read_rule is given exactly for its cause, as Paper has it.
-use Rattle.std.specs.Prelude.{ℕ, ◌≡◌, refl, ◌↔◌, List}
+use Rattle.std.specs.Prelude.{ℕ, ◌≡◌, refl, ◌↔◌, List, Ok}
 use Rattle.std.proofs.Common.{sym, ap, subst, ◌∙◌, ⊎_elim}
 use Rattle.answers.specs.declared.Kind.{Kind}
 use Rattle.answers.specs.declared.Kind.TheVariants.{Bits}
-use Rattle.answers.specs.declared.Outcome.TheVariants.{Accepted}
 use Rattle.answers.specs.Chain.{refused_as, kind_of, place_of}
 use Rattle.plant.specs.declared.Plant.{Plant}
 use Rattle.plant.specs.Table.{table_outcome}
@@ -52,7 +51,7 @@ module _ (p : Plant) (fair label next s : List ℕ) where
   answered : Answered
   answered = ⊎_elim (λ d. ⊎_elim fine (λ e. is_refused_lem (counts ((table.counts_refused p fair label next).0 e))) d) beyond (table.one_of_three p fair label next)
     where
-      fine : table_outcome p fair label next ≡ Accepted → Answered
+      fine : table_outcome p fair label next ≡ Ok tt → Answered
       fine e = let (f, t) = (table.accepted_exactly p fair label next).0 e in by_text (record { fairs = f; table = t }) (judged.judged p.props t.some_props s)
 
       beyond : table_outcome p fair label next ≡ refused_as Bits → Answered

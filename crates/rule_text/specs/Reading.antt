@@ -1,10 +1,9 @@
 -- What reading a rule's text answers: the checks one after the other (01, Refusal numbers).
-use Rattle.std.specs.Prelude.{ℕ, ◌+◌, List, [], ◌∷◌, Bool, false, ◌&&◌, cond, eqb, leb, ltb, length}
+use Rattle.std.specs.Prelude.{ℕ, ◌+◌, List, [], ◌∷◌, Bool, false, ◌&&◌, cond, eqb, leb, ltb, length, Ok, Err}
 use Rattle.meaning.specs.Limits.{most_nodes, most_parts}
 use Rattle.answers.specs.declared.Kind.{Kind}
 use Rattle.answers.specs.declared.Kind.TheVariants.{RuleLength, RuleText, Proposition, Nodes, Parts}
-use Rattle.answers.specs.declared.Outcome.{Outcome}
-use Rattle.answers.specs.declared.Outcome.TheVariants.{Accepted, Refused}
+use Rattle.answers.specs.Results.{Outcome}
 use Rattle.answers.specs.Paper.{refused_at}
 use Rattle.plant.specs.declared.Plant.{Plant}
 use Rattle.plant.specs.Table.{table_outcome}
@@ -23,11 +22,11 @@ use Rattle.std.specs.Prelude.{Some, None}
 
 -- a refusal, and beside it the value with no node
 abbrev pub no_rule : Kind → ℕ → RuleRead
-no_rule k place = record { outcome = Refused (refused_at k place); rule = empty_rule }
+no_rule k place = record { outcome = Err (refused_at k place); rule = empty_rule }
 
 -- the rule that a text gives
 abbrev pub accepted : Rule → RuleRead
-accepted r = record { outcome = Accepted; rule = r }
+accepted r = record { outcome = Ok tt; rule = r }
 
 -- b is a `p` whose number, with which s begins, is not below q
 unfoldable pub unknown : ℕ → ℕ → List ℕ → Bool
@@ -63,8 +62,8 @@ text_read s q = cond (ltb longest_rule (length s)) (no_rule RuleLength longest_r
 
 -- 1 and 2
 abbrev pub of_table : RuleRead → Outcome → RuleRead
-of_table r (Refused x) = no_rule x.kind x.place
-of_table r Accepted = r
+of_table r (Err x) = no_rule x.kind x.place
+of_table r (Ok _) = r
 
 -- what a text is answered, with the table lent beside it
 abbrev pub rule_read : Plant → List ℕ → List ℕ → List ℕ → List ℕ → RuleRead

@@ -4,13 +4,13 @@
 ghost use Rattle.std.specs.Prelude.{◌≡◌, ◌+◌, ◌<◌, length, get_or, drop};
 ghost use Rattle.rule_text.specs.Reading.{no_rule, unknown, unknown_at, limited, named, text_read};
 
-use answers::{Kind, Outcome, Refusal};
+use answers::{Kind, Refusal};
 use syntax::{Rule, Scan};
 
 // What reading a text answers. The rule beside a refusal is the value with no node.
 #[derive(Clone, Copy)]
 pub struct RuleRead {
-    pub outcome: Outcome,
+    pub outcome: Result<(), Refusal>,
     pub rule: Rule,
 }
 
@@ -20,7 +20,7 @@ impl RuleRead {
         ensures { result ≡ no_rule kind place }
     {
         RuleRead {
-            outcome: Outcome::Refused(Refusal::at(kind, place)),
+            outcome: Err(Refusal::at(kind, place)),
             rule: Rule::empty(),
         }
     }
@@ -62,7 +62,7 @@ fn within_limits(rule: Rule) -> RuleRead
         return RuleRead::refused(Kind::Parts, 0);
     }
     RuleRead {
-        outcome: Outcome::Accepted,
+        outcome: Ok(()),
         rule,
     }
 }

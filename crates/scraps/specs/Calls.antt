@@ -1,11 +1,10 @@
 -- WHAT THE TWO CALLS ANSWER: the checks in their order, and behind them the bytes of the scrap one by one.
-use Rattle.std.specs.Prelude.{ℕ, ◌+◌, Bool, cond, ◌&&◌, List, [], leb, ltb, eqb, length, get_or}
+use Rattle.std.specs.Prelude.{ℕ, ◌+◌, Bool, cond, ◌&&◌, List, [], leb, ltb, eqb, length, get_or, Ok, Err}
 use Rattle.words.specs.Below.{count_below}
 use Rattle.pairs.specs.declared.Pairs.{Pairs}
 use Rattle.model.specs.Checks.{pairs_ok}
 use Rattle.answers.specs.declared.Kind.TheVariants.{Value, Room, LogText, LogLength}
-use Rattle.answers.specs.declared.Outcome.{Outcome}
-use Rattle.answers.specs.declared.Outcome.TheVariants as Outcomes
+use Rattle.answers.specs.Results.{Outcome}
 use Rattle.answers.specs.Paper.{refused_at}
 use Rattle.answers.specs.Chain.{and_then, unless}
 use Rattle.plant.specs.declared.Plant.{Plant}
@@ -38,8 +37,8 @@ room_outcome scrap room taken = and_then (unless (leb (lines_in scrap) room) Roo
 
 -- a scrap's answer: how many verdicts it gave; or the refusal, with how many came before it
 abbrev pub heard_answer : Outcome → ℕ → LogAnswer
-heard_answer Outcomes.Accepted n = Watched (record { count = n })
-heard_answer (Outcomes.Refused r) n = Stopped (record { refusal = r; event = n })
+heard_answer (Ok _) n = Watched (record { count = n })
+heard_answer (Err r) n = Stopped (record { refusal = r; event = n })
 
 -- what a call gives, and the verdict bytes that it writes
 pub record Took : Type 0 where
@@ -51,12 +50,12 @@ heard_as h = record { taken = record { answer = heard_answer h.ear.standing (len
 
 -- behind the checks: a refusal takes nothing
 abbrev pub took_by : Outcome → Radio → Heard → Took
-took_by Outcomes.Accepted r h = heard_as h
-took_by (Outcomes.Refused x) r h = record { taken = record { answer = Refused x; radio = r }; verdicts = [] }
+took_by (Ok _) r h = heard_as h
+took_by (Err x) r h = record { taken = record { answer = Refused x; radio = r }; verdicts = [] }
 
 -- where the log ends: 12 at its length, where a line is not whole
 abbrev pub end_outcome : Radio → Outcome
-end_outcome r = cond (eqb r.len 0) Outcomes.Accepted (Outcomes.Refused (refused_at LogText (r.start + r.len)))
+end_outcome r = cond (eqb r.len 0) (Ok tt) (Err (refused_at LogText (r.start + r.len)))
 
 module _ (p : Plant) (fair label next : List ℕ) (rule : Rule) (live : Pairs) where
   -- 1, 2 and 9: the table, the rule, the live set and the monitor

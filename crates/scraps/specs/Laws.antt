@@ -1,6 +1,6 @@
 -- What the checks of the two calls give the code behind them.
 use mathlib.Core.Logic.Iff
-use Rattle.std.specs.Prelude.{ℕ, ◌+◌, ◌-◌, ◌^◌, ◌≤◌, ◌<◌, ◌≡◌, Bool, ◌&&◌, ◌||◌, ltb}
+use Rattle.std.specs.Prelude.{ℕ, ◌+◌, ◌-◌, ◌^◌, ◌≤◌, ◌<◌, ◌≡◌, Bool, ◌&&◌, ◌||◌, ltb, Ok, Err}
 use native.Mathlib.Omega.{arith}
 use Rattle.std.proofs.Math.Path.{refl, sym, ap, ap₂}
 use Rattle.std.proofs.Common.{◌∙◌, inl, inr, ⊎_elim}
@@ -20,11 +20,9 @@ use Rattle.model.specs.Sets.{PairSet}
 use Rattle.model.specs.Checks.{pairs_ok, pairs_says}
 use Rattle.answers.specs.declared.Kind.TheVariants.{Value, Room, LogText, LogLength}
 use Rattle.answers.specs.declared.Refusal.{Refusal}
-use Rattle.answers.specs.declared.Answer.{Answer}
-use Rattle.answers.specs.declared.Answer.TheVariants as Answers
+use Rattle.answers.specs.Results.{Answer}
 use Rattle.answers.specs.declared.Lamp.{Lamp}
-use Rattle.answers.specs.declared.Outcome.{Outcome}
-use Rattle.answers.specs.declared.Outcome.TheVariants.{Accepted, Refused}
+use Rattle.answers.specs.Results.{Outcome}
 use Rattle.answers.specs.Paper.{refused_at}
 use Rattle.answers.specs.Chain.{and_then, unless, chain_accepts, unless_accepts}
 use Rattle.plant.specs.declared.Plant.{Plant}
@@ -91,23 +89,23 @@ module _ (p : Plant) (fair label next : List ℕ) (rule : Rule) (live : Pairs) (
       ∙ turned (pairs_ok T f m.keeps.words) (pairs_ok T f live.words) rest)
 
   refusal_of : Answer → Outcome
-  refusal_of (Answers.Shown l) = Accepted
-  refusal_of (Answers.Refused r) = Refused r
+  refusal_of (Ok l) = Ok tt
+  refusal_of (Err r) = Err r
 
   lit_is : (o : Outcome) → refusal_of (lit o (model_of asked)) ≡ o
   unfolding refusal_of
-  lit_is Accepted = refl
-  lit_is (Refused r) = refl
+  lit_is (Ok _) = refl
+  lit_is (Err r) = refl
 
   told : {a : Answer} → a ≡ look_call p fair label next rule asked → refusal_of a ≡ held_outcome p fair label next rule live m
   unfolding look_call
   told e = ap refusal_of e ∙ lit_is (checked_of p fair label next rule (monitor_fits p fair label next rule asked)) ∙ held_same
 
-  pub held_refused : {a : Answer} {x : Refusal} → a ≡ look_call p fair label next rule asked → a ≡ Answers.Refused x → Refused x ≡ held_outcome p fair label next rule live m
+  pub held_refused : {a : Answer} {x : Refusal} → a ≡ look_call p fair label next rule asked → a ≡ Err x → Err x ≡ held_outcome p fair label next rule live m
   unfolding refusal_of
   held_refused e f = ap refusal_of (sym f) ∙ told e
 
-  pub held_shown : {a : Answer} {l : Lamp} → a ≡ look_call p fair label next rule asked → a ≡ Answers.Shown l → Accepted ≡ held_outcome p fair label next rule live m
+  pub held_shown : {a : Answer} {l : Lamp} → a ≡ look_call p fair label next rule asked → a ≡ Ok l → (Ok tt) ≡ held_outcome p fair label next rule live m
   unfolding refusal_of
   held_shown e f = ap refusal_of (sym f) ∙ told e
 
@@ -129,15 +127,15 @@ module _ (props : ℕ) (r : Radio) where
 -- ---- 11 and 24
 
 module _ (scrap : List ℕ) (room taken : ℕ) {n : ℕ} (lines : n ≡ lines_in scrap) where
-  pub room_short : {x : Refusal} → room < n → x ≡ refused_at Room 0 → Refused x ≡ room_outcome scrap room taken
+  pub room_short : {x : Refusal} → room < n → x ≡ refused_at Room 0 → Err x ≡ room_outcome scrap room taken
   unfolding room_outcome
   room_short l e = rw (← lines, lt-leb n room l, e) refl
 
-  pub room_long : {x : Refusal} → n ≤ room → taken ≤ 4294967295 → 4294967295 - taken < length scrap → x ≡ refused_at LogLength 0 → Refused x ≡ room_outcome scrap room taken
+  pub room_long : {x : Refusal} → n ≤ room → taken ≤ 4294967295 → 4294967295 - taken < length scrap → x ≡ refused_at LogLength 0 → Err x ≡ room_outcome scrap room taken
   unfolding room_outcome
   room_long l t m e = rw (← lines, le-leb n room l, lt-leb (taken + length scrap) longest (omega arith), e) refl
 
-  pub room_fits : n ≤ room → taken ≤ 4294967295 → length scrap ≤ 4294967295 - taken → Accepted ≡ room_outcome scrap room taken
+  pub room_fits : n ≤ room → taken ≤ 4294967295 → length scrap ≤ 4294967295 - taken → (Ok tt) ≡ room_outcome scrap room taken
   unfolding room_outcome
   room_fits l t m = rw (← lines, le-leb n room l, le-leb (taken + length scrap) longest (omega arith)) refl
 
@@ -145,11 +143,11 @@ module _ (scrap : List ℕ) (room taken : ℕ) {n : ℕ} (lines : n ≡ lines_in
 
 module _ (p : Plant) (fair label next : List ℕ) (rule : Rule) (live : Pairs) (r : Radio) where
   module _ {o : Outcome} (e : o ≡ held_outcome p fair label next rule live r.monitor) where
-    pub kept_held : {x : Refusal} → o ≡ Refused x → Refused x ≡ kept_outcome p fair label next rule live r
+    pub kept_held : {x : Refusal} → o ≡ Err x → Err x ≡ kept_outcome p fair label next rule live r
     unfolding kept_outcome
     kept_held f = ap (λ (o : Outcome). and_then o (and_then (unless (part_fits p.props r) Value) r.standing)) (sym f ∙ e)
 
-    module _ {t : Bool} (u : t ≡ part_fits p.props r) (f : o ≡ Accepted) where
+    module _ {t : Bool} (u : t ≡ part_fits p.props r) (f : o ≡ Ok tt) where
       by_part : {b : Bool} → t ≡ b → and_then (unless b Value) r.standing ≡ kept_outcome p fair label next rule live r
       unfolding kept_outcome
       by_part g = ap₂ (λ (o : Outcome) (b : Bool). and_then o (and_then (unless b Value) r.standing)) (sym f ∙ e) (sym g ∙ u)
@@ -157,12 +155,12 @@ module _ (p : Plant) (fair label next : List ℕ) (rule : Rule) (live : Pairs) (
       pub kept_stands : t ≡ true → r.standing ≡ kept_outcome p fair label next rule live r
       kept_stands g = by_part g
 
-      pub kept_not : {x : Refusal} → t ≡ false → x ≡ refused_at Value 0 → Refused x ≡ kept_outcome p fair label next rule live r
-      kept_not g place = ap Refused place ∙ by_part g
+      pub kept_not : {x : Refusal} → t ≡ false → x ≡ refused_at Value 0 → Err x ≡ kept_outcome p fair label next rule live r
+      kept_not g place = ap Err place ∙ by_part g
 
   -- accepted: the table, the rule, the live set and the radio are what the loop asks for
-  module _ (ok : kept_outcome p fair label next rule live r ≡ Accepted) where
-    parts : (held_outcome p fair label next rule live r.monitor ≡ Accepted) × (So (part_fits p.props r) × (r.standing ≡ Accepted))
+  module _ (ok : kept_outcome p fair label next rule live r ≡ Ok tt) where
+    parts : (held_outcome p fair label next rule live r.monitor ≡ Ok tt) × (So (part_fits p.props r) × (r.standing ≡ Ok tt))
     unfolding kept_outcome
     parts =
         let (a, b) = (chain_accepts (held_outcome p fair label next rule live r.monitor) _).0 ok in
@@ -200,7 +198,7 @@ module _ (p : Plant) (fair label next : List ℕ) (rule : Rule) (live : Pairs) (
         side k b true = k
         side k b false = b
 
-    pub fit : length r.part ≡ 40 → (scrap : List ℕ) (room : ℕ) → room_outcome scrap room (r.start + r.len) ≡ Accepted → Fit (width_of p.props) r (length scrap)
+    pub fit : length r.part ≡ 40 → (scrap : List ℕ) (room : ℕ) → room_outcome scrap room (r.start + r.len) ≡ Ok tt → Fit (width_of p.props) r (length scrap)
     unfolding room_outcome
     fit full scrap room e =
         let (a, b) = (chain_accepts (unless (leb (lines_in scrap) room) Room) (unless (leb (r.start + r.len + length scrap) longest) LogLength)).0 e in
@@ -209,42 +207,42 @@ module _ (p : Plant) (fair label next : List ℕ) (rule : Rule) (live : Pairs) (
 
   -- the checks of a scrap
   module _ (scrap : List ℕ) (room : ℕ) where
-    pub take_refused : {o : Outcome} {x : Refusal} → o ≡ kept_outcome p fair label next rule live r → o ≡ Refused x → Refused x ≡ take_outcome p fair label next rule live r scrap room
+    pub take_refused : {o : Outcome} {x : Refusal} → o ≡ kept_outcome p fair label next rule live r → o ≡ Err x → Err x ≡ take_outcome p fair label next rule live r scrap room
     unfolding take_outcome
     take_refused e f = ap (λ (o : Outcome). and_then o (room_outcome scrap room (r.start + r.len))) (sym f ∙ e)
 
-    pub take_passes : {o z : Outcome} → o ≡ kept_outcome p fair label next rule live r → o ≡ Accepted → z ≡ room_outcome scrap room (r.start + r.len) → z ≡ take_outcome p fair label next rule live r scrap room
+    pub take_passes : {o z : Outcome} → o ≡ kept_outcome p fair label next rule live r → o ≡ Ok tt → z ≡ room_outcome scrap room (r.start + r.len) → z ≡ take_outcome p fair label next rule live r scrap room
     unfolding take_outcome
     take_passes e f g = g ∙ ap (λ (o : Outcome). and_then o (room_outcome scrap room (r.start + r.len))) (sym f ∙ e)
 
-    pub take_parts : take_outcome p fair label next rule live r scrap room ≡ Accepted → (kept_outcome p fair label next rule live r ≡ Accepted) × (room_outcome scrap room (r.start + r.len) ≡ Accepted)
+    pub take_parts : take_outcome p fair label next rule live r scrap room ≡ Ok tt → (kept_outcome p fair label next rule live r ≡ Ok tt) × (room_outcome scrap room (r.start + r.len) ≡ Ok tt)
     unfolding take_outcome
     take_parts e = (chain_accepts (kept_outcome p fair label next rule live r) (room_outcome scrap room (r.start + r.len))).0 e
 
     -- what is answered
-    pub took_none : {o : Outcome} {x : Refusal} → o ≡ take_outcome p fair label next rule live r scrap room → o ≡ Refused x
+    pub took_none : {o : Outcome} {x : Refusal} → o ≡ take_outcome p fair label next rule live r scrap room → o ≡ Err x
         → record { taken = record { answer = Logs.Refused x; radio = r }; verdicts = [] } ≡ take_call p fair label next rule live r scrap room
     unfolding take_call
     took_none e f = ap (λ (o : Outcome). took_by o r (hear_all (width_of p.props) (step_call p fair label next rule live) (heard_by r []) scrap)) (sym f ∙ e)
 
-    pub took_some : {o : Outcome} → o ≡ take_outcome p fair label next rule live r scrap room → o ≡ Accepted → {before now : List ℕ} {w : Went}
+    pub took_some : {o : Outcome} → o ≡ take_outcome p fair label next rule live r scrap room → o ≡ Ok tt → {before now : List ℕ} {w : Went}
         → Listened (hear_all (width_of p.props) (step_call p fair label next rule live) (heard_by r []) scrap) before now w → {a : LogAnswer} → a ≡ heard_answer w.radio.standing w.done
         → (record { answer = a; radio = w.radio } ≡ (take_call p fair label next rule live r scrap room).taken) × (now ≡ laid (take_call p fair label next rule live r scrap room).verdicts before)
     unfolding take_call radio_of
     took_some {o} e f {before} {now} {w} h {a} is =
         let heard = hear_all (width_of p.props) (step_call p fair label next rule live) (heard_by r []) scrap in
-        let by : took_by Accepted r heard ≡ took_by (take_outcome p fair label next rule live r scrap room) r heard = ap (λ (o : Outcome). took_by o r heard) (sym f ∙ e) in
+        let by : took_by (Ok tt) r heard ≡ took_by (take_outcome p fair label next rule live r scrap room) r heard = ap (λ (o : Outcome). took_by o r heard) (sym f ∙ e) in
         (ap (λ (a : LogAnswer). record { answer = a; radio = w.radio }) is ∙ ap₂ (λ (x : Radio) (n : ℕ). record { answer = heard_answer x.standing n; radio = x }) h.radio h.done ∙ ap (λ (t : Took). t.taken) by, h.bytes ∙ ap (λ (t : Took). laid t.verdicts before) by)
 
   -- the end
-  pub end_refused : {o : Outcome} {x : Refusal} → o ≡ kept_outcome p fair label next rule live r → o ≡ Refused x → Refused x ≡ finish_call p fair label next rule live r
+  pub end_refused : {o : Outcome} {x : Refusal} → o ≡ kept_outcome p fair label next rule live r → o ≡ Err x → Err x ≡ finish_call p fair label next rule live r
   unfolding finish_call
   end_refused e f = ap (λ (o : Outcome). and_then o (end_outcome r)) (sym f ∙ e)
 
-  pub end_whole : {o : Outcome} → o ≡ kept_outcome p fair label next rule live r → o ≡ Accepted → r.len ≡ 0 → Accepted ≡ finish_call p fair label next rule live r
+  pub end_whole : {o : Outcome} → o ≡ kept_outcome p fair label next rule live r → o ≡ Ok tt → r.len ≡ 0 → (Ok tt) ≡ finish_call p fair label next rule live r
   unfolding finish_call
-  end_whole e f g = sym (ap (λ (t : Bool). cond t Accepted (Refused (refused_at LogText (r.start + r.len)))) (eq-eqb r.len 0 g)) ∙ ap (λ (o : Outcome). and_then o (end_outcome r)) (sym f ∙ e)
+  end_whole e f g = sym (ap (λ (t : Bool). cond t (Ok tt) (Err (refused_at LogText (r.start + r.len)))) (eq-eqb r.len 0 g)) ∙ ap (λ (o : Outcome). and_then o (end_outcome r)) (sym f ∙ e)
 
-  pub end_part : {o : Outcome} {x : Refusal} → o ≡ kept_outcome p fair label next rule live r → o ≡ Accepted → (r.len ≡ 0 → ⊥) → x ≡ refused_at LogText (r.start + r.len) → Refused x ≡ finish_call p fair label next rule live r
+  pub end_part : {o : Outcome} {x : Refusal} → o ≡ kept_outcome p fair label next rule live r → o ≡ Ok tt → (r.len ≡ 0 → ⊥) → x ≡ refused_at LogText (r.start + r.len) → Err x ≡ finish_call p fair label next rule live r
   unfolding finish_call
-  end_part e f g place = ap Refused place ∙ sym (ap (λ (t : Bool). cond t Accepted (Refused (refused_at LogText (r.start + r.len)))) (ne_eqb r.len 0 g)) ∙ ap (λ (o : Outcome). and_then o (end_outcome r)) (sym f ∙ e)
+  end_part e f g place = ap Err place ∙ sym (ap (λ (t : Bool). cond t (Ok tt) (Err (refused_at LogText (r.start + r.len)))) (ne_eqb r.len 0 g)) ∙ ap (λ (o : Outcome). and_then o (end_outcome r)) (sym f ∙ e)

@@ -5,7 +5,7 @@ ghost use Rattle.std.specs.Prelude.{◌≡◌, ◌+◌, ◌≤◌, length};
 ghost use Rattle.course.specs.Laid.{laid};
 ghost use Rattle.scraps.specs.Calls.{held_outcome, lines_in, part_fits, room_outcome, kept_outcome, take_outcome, heard_answer, take_call, finish_call};
 
-use answers::{Answer, Kind, Outcome, Refusal};
+use answers::{Answer, Kind, Refusal};
 use controller::{Events, LogAnswer, Stop};
 use pairs::Pairs;
 use plant::Plant;
@@ -30,17 +30,15 @@ fn check_held(
     rule: Rule,
     live: Pairs,
     monitor: Monitor,
-) -> Outcome
+) -> Result<(), Refusal>
     ensures { result ≡ held_outcome plant fair.now label.now next.now rule live monitor }
 {
     let all = Monitor {
         keeps: monitor.keeps.join(live),
         ..monitor
     };
-    match monitor::look(plant, fair, label, next, rule, all) {
-        Answer::Refused(refusal) => Outcome::Refused(refusal),
-        Answer::Shown(_) => Outcome::Accepted,
-    }
+    monitor::look(plant, fair, label, next, rule, all)?;
+    Ok(())
 }
 
 // Whether what is kept begins a line of the log and is not whole, and is no more than a log may have.
@@ -62,18 +60,14 @@ fn check_kept(
     rule: Rule,
     live: Pairs,
     radio: Radio,
-) -> Outcome
+) -> Result<(), Refusal>
     ensures { result ≡ kept_outcome plant fair.now label.now next.now rule live radio }
 {
-    match check_held(plant, fair, label, next, rule, live, radio.monitor) {
-        Outcome::Refused(refusal) => Outcome::Refused(refusal),
-        Outcome::Accepted => {
-            if part_fits(radio, plant.props) {
-                return radio.standing;
-            }
-            Outcome::Refused(Refusal::at(Kind::Value, 0))
-        }
+    check_held(plant, fair, label, next, rule, live, radio.monitor)?;
+    if !part_fits(radio, plant.props) {
+        return Err(Refusal::at(Kind::Value, 0));
     }
+    radio.standing
 }
 
 // How many line ends a scrap has.
@@ -85,17 +79,17 @@ fn lines_in(scrap: &[u8]) -> usize
 }
 
 // A byte for each line end, 11; and then no more bytes than a log may have, 24.
-fn check_room(scrap: &[u8], room: usize, taken: usize) -> Outcome
+fn check_room(scrap: &[u8], room: usize, taken: usize) -> Result<(), Refusal>
     requires { taken ≤ 4294967295 }
     ensures { result ≡ room_outcome scrap.now room taken }
 {
     if room < lines_in(scrap) {
-        return Outcome::Refused(Refusal::at(Kind::Room, 0));
+        return Err(Refusal::at(Kind::Room, 0));
     }
     if Radio::LONGEST - taken < scrap.len() {
-        return Outcome::Refused(Refusal::at(Kind::LogLength, 0));
+        return Err(Refusal::at(Kind::LogLength, 0));
     }
-    Outcome::Accepted
+    Ok(())
 }
 
 // All checks of a scrap, in their order.
@@ -109,22 +103,20 @@ fn check_take(
     radio: Radio,
     scrap: &[u8],
     room: usize,
-) -> Outcome
+) -> Result<(), Refusal>
     ensures { result ≡ take_outcome plant fair.now label.now next.now rule live radio scrap.now room }
 {
-    match check_kept(plant, fair, label, next, rule, live, radio) {
-        Outcome::Refused(refusal) => Outcome::Refused(refusal),
-        Outcome::Accepted => check_room(scrap, room, radio.start + radio.len),
-    }
+    check_kept(plant, fair, label, next, rule, live, radio)?;
+    check_room(scrap, room, radio.start + radio.len)
 }
 
 // How a scrap ended that gave so many verdicts.
-fn answer_of(standing: Outcome, done: usize) -> LogAnswer
+fn answer_of(standing: Result<(), Refusal>, done: usize) -> LogAnswer
     ensures { result ≡ heard_answer standing done }
 {
     match standing {
-        Outcome::Accepted => LogAnswer::Watched(Events { count: done }),
-        Outcome::Refused(refusal) => LogAnswer::Stopped(Stop {
+        Ok(()) => LogAnswer::Watched(Events { count: done }),
+        Err(refusal) => LogAnswer::Stopped(Stop {
             refusal,
             event: done,
         }),
@@ -160,11 +152,11 @@ pub fn take(
         verdicts.len(),
     );
     match outcome {
-        Outcome::Refused(refusal) => Taken {
+        Err(refusal) => Taken {
             answer: LogAnswer::Refused(refusal),
             radio,
         },
-        Outcome::Accepted => {
+        Ok(()) => {
             let went = listen(plant, fair, label, next, rule, live, radio, scrap, verdicts);
             Taken {
                 answer: answer_of(went.radio.standing, went.done),
@@ -183,16 +175,12 @@ pub fn finish(
     rule: Rule,
     live: Pairs,
     radio: Radio,
-) -> Outcome
+) -> Result<(), Refusal>
     ensures { result ≡ finish_call plant fair.now label.now next.now rule live radio }
 {
-    match check_kept(plant, fair, label, next, rule, live, radio) {
-        Outcome::Refused(refusal) => Outcome::Refused(refusal),
-        Outcome::Accepted => {
-            if radio.len == 0 {
-                return Outcome::Accepted;
-            }
-            Outcome::Refused(Refusal::at(Kind::LogText, radio.start + radio.len))
-        }
+    check_kept(plant, fair, label, next, rule, live, radio)?;
+    if radio.len != 0 {
+        return Err(Refusal::at(Kind::LogText, radio.start + radio.len));
     }
+    Ok(())
 }

@@ -1,14 +1,12 @@
 -- Scraps beside the whole-log call: its claims, proved. Both follow the public step, line after line.
-use Rattle.std.specs.Prelude.{ℕ, ◌≤◌, ◌≡◌, refl, length}
+use Rattle.std.specs.Prelude.{ℕ, ◌≤◌, ◌≡◌, refl, length, Ok, Err}
 use Rattle.std.proofs.Common.{sym, ◌∙◌}
 use Rattle.std.proofs.Math.Path.{ap, ap₂}
 use mathlib.Core.List.{List}
 use borrow.Author.Tests.{le-leb}
 use Rattle.std.proofs.lemmas.List.{length-map}
 use Rattle.answers.specs.declared.Lamp.{Lamp}
-use Rattle.answers.specs.declared.Outcome.{Outcome}
-use Rattle.answers.specs.declared.Outcome.TheVariants.{Accepted}
-use Rattle.answers.specs.declared.Outcome.TheVariants as Outcomes
+use Rattle.answers.specs.Results.{Outcome}
 use Rattle.answers.specs.Paper.{number_of}
 use Rattle.answers.specs.Chain.{and_then}
 use Rattle.text.specs.Number.{width_of}
@@ -28,22 +26,22 @@ use Rattle.scraps_right.specs.Claims.{lines_to, lines_of, placed_at, LineByLine,
 use Rattle.scraps_right.specs.Texts.{lines_read_lem, lines_start}
 use Rattle.scraps_right.specs.Promises.{every_cutting}
 
-and_accepted : (o : Outcome) → and_then o Accepted ≡ o
-and_accepted Accepted = refl
-and_accepted (Outcomes.Refused r) = refl
+and_accepted : (o : Outcome) → and_then o (Ok tt) ≡ o
+and_accepted (Ok _) = refl
+and_accepted (Err r) = refl
 
 -- an answer is the refusal of an event at its place, and how many came before
 end_is : (offset done : ℕ) (o : Outcome) → end_at offset o done ≡ heard_answer (placed_at offset o) done
-end_is offset done Accepted = refl
-end_is offset done (Outcomes.Refused r) = refl
+end_is offset done (Ok _) = refl
+end_is offset done (Err r) = refl
 
 count_is : (offset done : ℕ) (o : Outcome) → done ≡ count_of (end_at offset o done)
-count_is offset done Accepted = refl
-count_is offset done (Outcomes.Refused r) = refl
+count_is offset done (Ok _) = refl
+count_is offset done (Err r) = refl
 
 stop_is : (offset done : ℕ) (o form : Outcome) → and_then (placed_at offset o) form ≡ stop_or (end_at offset o done) form
-stop_is offset done Accepted form = refl
-stop_is offset done (Outcomes.Refused r) form = refl
+stop_is offset done (Ok _) form = refl
+stop_is offset done (Err r) form = refl
 
 module _ (table rule : List ℕ) where
   abbrev o : Opened
@@ -56,7 +54,7 @@ module _ (table rule : List ℕ) where
   course log = course_of o.table.plant (fair_in o.table) (label_in o.table) (next_in o.table) o.rule o.live o.monitor log
 
   -- a log and a buffer, by what their check says
-  heard_is : o.outcome ≡ Accepted → (log : List ℕ) (room : ℕ) (c : Outcome) → log_checked o.table.plant.props log room ≡ c → heard_of table rule log room ≡ heard_in c o log
+  heard_is : o.outcome ≡ Ok tt → (log : List ℕ) (room : ℕ) (c : Outcome) → log_checked o.table.plant.props log room ≡ c → heard_of table rule log room ≡ heard_in c o log
   unfolding heard_of
   heard_is ok log room c e = ap₂ (λ (x y : Outcome). heard_in (and_then x y) o log) ok e
 
@@ -81,7 +79,7 @@ module _ (table rule : List ℕ) where
         let log = text ss in
         let t = lines_of W log in
         let went = (course t).went in
-        let heard : heard_of table rule t buffer ≡ heard_by (bytes_in W t) (course t) = heard_is g.opened t buffer Accepted (rw (lines_read_lem W log, le-leb (whole_lines W t) buffer enough) refl) in
+        let heard : heard_of table rule t buffer ≡ heard_by (bytes_in W t) (course t) = heard_is g.opened t buffer (Ok tt) (rw (lines_read_lem W log, le-leb (whole_lines W t) buffer enough) refl) in
         let same : line_start (bytes_in W t) went.done ≡ line_start (bytes_in W log) went.done =
         lines_start W log (step_call o.table.plant (fair_in o.table) (label_in o.table) (next_in o.table) o.rule o.live) o.monitor in (
           lines.verdicts_are ∙ ap (λ (h : Heard). h.bytes) (sym heard),
@@ -99,7 +97,7 @@ module _ (table rule : List ℕ) where
       let all : lines_of W log ≡ log = ap (lines_to (bytes_in W log) log) read in
       let stop : end_of_all table rule ss ≡ placed_at offset went.outcome =
       (lines ss g).ends ∙ ap₂ (λ (t : List ℕ) (x : Outcome). and_then (placed_at (line_start (bytes_in W log) (course t).went.done) (course t).went.outcome) x) all read ∙ and_accepted (placed_at offset went.outcome) in
-      heard_is g.opened log buffer Accepted (rw (read, le-leb (log_read W log).lines buffer enough) refl)
+      heard_is g.opened log buffer (Ok tt) (rw (read, le-leb (log_read W log).lines buffer enough) refl)
       ∙ ap₂ (λ (a : LogAnswer) (b : List ℕ). record { answer = a; bytes = b })
       (end_is offset went.done went.outcome ∙ ap₂ heard_answer (sym stop) (sym (many ss g ∙ ap (λ (t : List ℕ). (course t).went.done) all)))
       (sym ((lines ss g).verdicts_are ∙ ap (λ (t : List ℕ). verdict_bytes (course t).lamps) all))
@@ -108,4 +106,4 @@ module _ (table rule : List ℕ) where
   unfolding log_checked
   as_lines_before ss g buffer twelve read enough =
       let (bytes, count, ends) = lines_alone ss g buffer enough in
-      (heard_is g.opened (text ss) buffer (Outcomes.Refused twelve) (rw read refl), bytes, count, ends ∙ ap (stop_or (heard_of table rule (lines_of W (text ss)) buffer).answer) read)
+      (heard_is g.opened (text ss) buffer (Err twelve) (rw read refl), bytes, count, ends ∙ ap (stop_or (heard_of table rule (lines_of W (text ss)) buffer).answer) read)

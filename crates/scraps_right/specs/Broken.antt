@@ -1,7 +1,7 @@
 -- The line behind the last that fits: the first byte that does not fit is refused, and where there is none the bytes are kept.
 use Prim.Native.Nat.{ℕ, zero, suc, ◌+◌, ◌≤◌, ◌<◌}
 use Rattle.std.proofs.Common.{arith, ◌∙◌, inl, length-drop, take-append-drop}
-use Rattle.std.specs.Prelude.{◌≡◌, Bool, true, ◌⊎◌, ltb, drop}
+use Rattle.std.specs.Prelude.{◌≡◌, Bool, true, ◌⊎◌, ltb, drop, Ok, Err}
 use Rattle.std.proofs.Math.Path.{refl, sym, ap}
 use Rattle.std.proofs.Math.Bool.{false, cond}
 use Rattle.std.proofs.lemmas.Bool.{false≢true}
@@ -11,10 +11,8 @@ use borrow.Author.Tests.{lt-ltb, le-ltb}
 use Rattle.std.proofs.Math.ListN.{length, take, length-take}
 use Rattle.answers.specs.declared.Kind.TheVariants.{LogText}
 use Rattle.answers.specs.declared.Refusal.{Refusal}
-use Rattle.answers.specs.declared.Answer.{Answer}
-use Rattle.answers.specs.declared.Answer.TheVariants as Answers
-use Rattle.answers.specs.declared.Outcome.{Outcome}
-use Rattle.answers.specs.declared.Outcome.TheVariants.{Accepted, Refused}
+use Rattle.answers.specs.Results.{Answer}
+use Rattle.answers.specs.Results.{Outcome}
 use Rattle.answers.specs.Chain.{is_accepted}
 use Rattle.answers.specs.Paper.{refused_at}
 use Rattle.text.specs.Cases.{below_or_beyond}
@@ -48,23 +46,23 @@ own_or_other false false = inr refl
 
 -- ---- a course that was not refused has taken all
 
-pub all_done : (step : Monitor → Event → Watched) (m : Monitor) (event : ℕ → Event) (k : ℕ) → (course_to step m event k).went.outcome ≡ Accepted → (course_to step m event k).went.done ≡ k
+pub all_done : (step : Monitor → Event → Watched) (m : Monitor) (event : ℕ → Event) (k : ℕ) → (course_to step m event k).went.outcome ≡ Ok tt → (course_to step m event k).went.done ≡ k
 unfolding course_to
 all_done step m event zero e = refl
 all_done step m event (suc k) e = by (course_to step m event k) (course_to step m event k).went.outcome refl (all_done step m event k) e
   where
-    took : (c : Course) (v : ℕ) (x : Watched) (a : Answer) → c.went.done ≡ k → (takes c v x a).went.outcome ≡ Accepted → (takes c v x a).went.done ≡ suc k
-    took c v x (Answers.Shown l) d e = ap suc d
-    took c v x (Answers.Refused r) d e = absurd (false≢true (ap is_accepted e))
+    took : (c : Course) (v : ℕ) (x : Watched) (a : Answer) → c.went.done ≡ k → (takes c v x a).went.outcome ≡ Ok tt → (takes c v x a).went.done ≡ suc k
+    took c v x (Ok l) d e = ap suc d
+    took c v x (Err r) d e = absurd (false≢true (ap is_accepted e))
 
-    by : (c : Course) (o : Outcome) → c.went.outcome ≡ o → (c.went.outcome ≡ Accepted → c.went.done ≡ k) → (go_on step c (event k) o).went.outcome ≡ Accepted → (go_on step c (event k) o).went.done ≡ suc k
-    by c (Refused r) f d e = absurd (false≢true (ap is_accepted (sym f ∙ e)))
-    by c Accepted f d e = took c (number_in c.went.monitor (event k)) (step c.went.monitor (event k)) (step c.went.monitor (event k)).answer (d f) e
+    by : (c : Course) (o : Outcome) → c.went.outcome ≡ o → (c.went.outcome ≡ Ok tt → c.went.done ≡ k) → (go_on step c (event k) o).went.outcome ≡ Ok tt → (go_on step c (event k) o).went.done ≡ suc k
+    by c (Err r) f d e = absurd (false≢true (ap is_accepted (sym f ∙ e)))
+    by c (Ok _) f d e = took c (number_in c.went.monitor (event k)) (step c.went.monitor (event k)) (step c.went.monitor (event k)).answer (d f) e
 
 -- behind lines: a refused event ends all; else the first byte that does not fit does, or the bytes are kept
 abbrev pub broken_behind : Outcome → Heard → List ℕ → ℕ → Heard
-broken_behind (Refused r) h rest good = h
-broken_behind Accepted h rest good = cond (ltb good (length rest)) (stopped h (refused_at LogText (h.ear.start + good))) (kept h rest)
+broken_behind (Err r) h rest good = h
+broken_behind (Ok _) h rest good = cond (ltb good (length rest)) (stopped h (refused_at LogText (h.ear.start + good))) (kept h rest)
 
 module _ (w : ℕ) (step : Monitor → Event → Watched) where
   module _ (numbered : Bool) (start : ℕ) (form : Form) (m : Monitor) (vs rest : List ℕ) (some : 0 < length rest) where
@@ -123,7 +121,7 @@ module _ (w : ℕ) (step : Monitor → Event → Watched) where
             ∙ rw (good, le-ltb F (length rest) l, lt-ltb (length rest) (bytes_in w rest) (omega (arith, size))) refl
 
   -- ---- the whole text
-  module _ (m : Monitor) (s : List ℕ) (still : (x : Monitor) (e : Event) (r : Refusal) → (step x e).answer ≡ Answers.Refused r → (step x e).monitor ≡ x) where
+  module _ (m : Monitor) (s : List ℕ) (still : (x : Monitor) (e : Event) (r : Refusal) → (step x e).answer ≡ Err r → (step x e).monitor ≡ x) where
     abbrev numbered : Bool
     numbered = is_numbered s
 
@@ -146,18 +144,18 @@ module _ (w : ℕ) (step : Monitor → Event → Watched) where
       first zero = inr refl
       first (suc k) = own_or_other numbered (is_numbered (drop (line_start size (suc k)) s))
 
-      on : (c : Course) (o : Outcome) → c.went.outcome ≡ o → (c.went.outcome ≡ Accepted → c.went.done ≡ k)
+      on : (c : Course) (o : Outcome) → c.went.outcome ≡ o → (c.went.outcome ≡ Ok tt → c.went.done ≡ k)
           → hear_all w step (heard_behind numbered size c) rest ≡ broken_behind c.went.outcome (heard_behind numbered size c) rest good
-      on c (Refused r) e d =
+      on c (Err r) e d =
           hears_no_more w step (heard_behind numbered size c) (ap (placed_at (line_start size c.went.done)) e) rest ∙ ap (λ (o : Outcome). broken_behind o (heard_behind numbered size c) rest good) (sym e)
-      on c Accepted e d = rw e (⊎_elim by_other by_own (first k))
+      on c (Ok _) e d = rw e (⊎_elim by_other by_own (first k))
         where
           done : c.went.done ≡ k
           done = d e
 
           by_other : agrees (form_at numbered k) (is_numbered rest) ≡ false
               → hear_all w step (between (line_start size c.went.done) (form_at numbered c.went.done) c.went.monitor (verdict_bytes c.lamps)) rest
-              ≡ broken_behind Accepted (between (line_start size c.went.done) (form_at numbered c.went.done) c.went.monitor (verdict_bytes c.lamps)) rest good
+              ≡ broken_behind (Ok tt) (between (line_start size c.went.done) (form_at numbered c.went.done) c.went.monitor (verdict_bytes c.lamps)) rest good
           by_other unlike =
               let none : good ≡ 0 = ⊎_elim (λ (l : 0 < good). absurd (false≢true (sym unlike ∙ ap (agrees (form_at numbered k)) (first_is w numbered rest l) ∙ agrees_own numbered k))) (λ (l : good ≤ 0). omega arith) (below_or_beyond 0 good) in
               other numbered (line_start size c.went.done) (form_at numbered c.went.done) c.went.monitor (verdict_bytes c.lamps) rest long (rw done unlike)
@@ -165,7 +163,7 @@ module _ (w : ℕ) (step : Monitor → Event → Watched) where
 
           by_own : is_numbered rest ≡ numbered
               → hear_all w step (between (line_start size c.went.done) (form_at numbered c.went.done) c.went.monitor (verdict_bytes c.lamps)) rest
-              ≡ broken_behind Accepted (between (line_start size c.went.done) (form_at numbered c.went.done) c.went.monitor (verdict_bytes c.lamps)) rest good
+              ≡ broken_behind (Ok tt) (between (line_start size c.went.done) (form_at numbered c.went.done) c.went.monitor (verdict_bytes c.lamps)) rest good
           by_own is = own numbered (line_start size c.went.done) (form_at numbered c.went.done) c.went.monitor (verdict_bytes c.lamps) rest long is (agrees_own numbered c.went.done) bad
 
       pub broken_heard : Fit (line (is_numbered s) w) (bytes_in w s) s k

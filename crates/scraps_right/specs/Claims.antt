@@ -2,14 +2,12 @@
 -- Written prove what is claimed; this page has no proof, so what it takes from other files is what must be believed.
 -- `take_call`, `finish_call` (scraps/specs/Calls) and `heard_of` (controller/specs/Whole) are by the contracts of `take`, `finish` and `watch_log` what these give; `radio_after`, `said` and `text`
 -- (cuttings/specs/Scraps) are the calls of `take` one after the other, the verdicts that they write, and the bytes joined.
-use Rattle.std.specs.Prelude.{ℕ, ◌/◌, ◌≤◌, ◌≡◌, cond, List, [], ◌∷◌, ◌++◌, ltb, leb, length, take, replicate}
+use Rattle.std.specs.Prelude.{ℕ, ◌/◌, ◌≤◌, ◌≡◌, cond, List, [], ◌∷◌, ◌++◌, ltb, leb, length, take, replicate, Ok, Err}
 use Rattle.words.specs.Over.{over}
 use Rattle.pairs.specs.declared.Pairs.{Pairs}
 use Rattle.answers.specs.declared.Kind.TheVariants.{Room, LogLength}
 use Rattle.answers.specs.declared.Refusal.{Refusal}
-use Rattle.answers.specs.declared.Outcome.{Outcome}
-use Rattle.answers.specs.declared.Outcome.TheVariants as Outcomes
-use Rattle.answers.specs.declared.Outcome.TheVariants.{Accepted}
+use Rattle.answers.specs.Results.{Outcome}
 use Rattle.answers.specs.Paper.{refused_at}
 use Rattle.answers.specs.Chain.{and_then, unless}
 use Rattle.plant.specs.declared.Plant.{Plant}
@@ -34,7 +32,7 @@ use Rattle.cuttings.specs.Scraps.{Scrap, radio_after, said, text}
 
 -- before the first byte of a log
 abbrev pub fresh : Monitor → Radio
-fresh m = record { part = replicate 40 0; len = 0; start = 0; form = Unknown; standing = Accepted; monitor = m }
+fresh m = record { part = replicate 40 0; len = 0; start = 0; form = Unknown; standing = Ok tt; monitor = m }
 
 -- each scrap has a byte in its buffer for each of its line ends
 abbrev pub Roomy : List Scrap → Type 0
@@ -49,8 +47,8 @@ nothing_taken x r = record { taken = record { answer = Refused x; radio = r }; v
 
 -- what stands before the place of 12, without the line that is not whole; all where there is no 12
 abbrev pub lines_to : ℕ → List ℕ → Outcome → List ℕ
-lines_to n log Outcomes.Accepted = log
-lines_to n log (Outcomes.Refused r) = take (line_start n (r.place / n)) log
+lines_to n log (Ok _) = log
+lines_to n log (Err r) = take (line_start n (r.place / n)) log
 
 -- THE WHOLE LINES OF A LOG, up to the first that is refused for its form
 abbrev pub lines_of : ℕ → List ℕ → List ℕ
@@ -58,13 +56,13 @@ lines_of w log = lines_to (bytes_in w log) log (log_read w log).outcome
 
 -- the refusal of an event, at the offset of its line
 abbrev pub placed_at : ℕ → Outcome → Outcome
-placed_at offset Outcomes.Accepted = Outcomes.Accepted
-placed_at offset (Outcomes.Refused r) = Outcomes.Refused (refused_at r.kind offset)
+placed_at offset (Ok _) = Ok tt
+placed_at offset (Err r) = Err (refused_at r.kind offset)
 
 -- 12 before the end of the log: only a byte is refused, and not that there are too few
 abbrev pub so_far : ℕ → Outcome → Outcome
-so_far long Outcomes.Accepted = Outcomes.Accepted
-so_far long (Outcomes.Refused r) = cond (ltb r.place long) (Outcomes.Refused r) Outcomes.Accepted
+so_far long (Ok _) = Ok tt
+so_far long (Err r) = cond (ltb r.place long) (Err r) (Ok tt)
 
 module _ (p : Plant) (fair label next : List ℕ) (rule : Rule) (live : Pairs) (m : Monitor) where
   abbrev w : ℕ
@@ -127,19 +125,19 @@ module _ (p : Plant) (fair label next : List ℕ) (rule : Rule) (live : Pairs) (
   -- each scrap, where nothing was refused before it: its answer is the refusal that stands from now on, with how many verdicts it wrote before; and it wrote the verdicts of the events
   -- whose lines it ends
   abbrev pub EachScrap : Type 0
-  EachScrap = (ss : List Scrap) (s : Scrap) → Given (ss ++ s ∷ []) → (behind ss).standing ≡ Accepted
+  EachScrap = (ss : List Scrap) (s : Scrap) → Given (ss ++ s ∷ []) → (behind ss).standing ≡ Ok tt
       → ((one_more ss s).taken.answer ≡ heard_answer (standing (text (ss ++ s ∷ []))) (length (one_more ss s).verdicts))
       × (verdict_bytes (course_by (text (ss ++ s ∷ []))).lamps ≡ verdict_bytes (course_by (text ss)).lamps ++ (one_more ss s).verdicts)
 
   -- a scrap that is refused for itself, where nothing was refused before it: 11 exactly if it has more line ends than its buffer bytes, and else 24 exactly if the log would be too long
   abbrev pub TakesNothing : Type 0
-  TakesNothing = (ss : List Scrap) → Given ss → (behind ss).standing ≡ Accepted → (s : Scrap) (x : Refusal)
-      → and_then (unless (leb (lines_in s.bytes) s.room) Room) (unless (leb (length (text (ss ++ s ∷ []))) longest) LogLength) ≡ Outcomes.Refused x → one_more ss s ≡ nothing_taken x (behind ss)
+  TakesNothing = (ss : List Scrap) → Given ss → (behind ss).standing ≡ Ok tt → (s : Scrap) (x : Refusal)
+      → and_then (unless (leb (lines_in s.bytes) s.room) Room) (unless (leb (length (text (ss ++ s ∷ []))) longest) LogLength) ≡ Err x → one_more ss s ≡ nothing_taken x (behind ss)
 
   -- what was refused once is what any scrap behind it is told, and the end too
   abbrev pub Sticks : Type 0
-  Sticks = (ss : List Scrap) → Given ss → (x : Refusal) → (behind ss).standing ≡ Outcomes.Refused x
-      → ((s : Scrap) → one_more ss s ≡ nothing_taken x (behind ss)) × (end_behind ss ≡ Outcomes.Refused x)
+  Sticks = (ss : List Scrap) → Given ss → (x : Refusal) → (behind ss).standing ≡ Err x
+      → ((s : Scrap) → one_more ss s ≡ nothing_taken x (behind ss)) × (end_behind ss ≡ Err x)
 
 -- any radio, scrap and buffer: all verdicts that there are stand at the buffer's start, and its rest stays
 abbrev pub AllWritten : Type 0
@@ -151,8 +149,8 @@ AllWritten = (p : Plant) (fair label next : List ℕ) (rule : Rule) (live : Pair
 -- the refusal of an event, and else of the form
 abbrev pub stop_or : LogAnswer → Outcome → Outcome
 stop_or (Watched n) form = form
-stop_or (Stopped s) form = Outcomes.Refused s.refusal
-stop_or (Refused r) form = Outcomes.Refused r
+stop_or (Stopped s) form = Err s.refusal
+stop_or (Refused r) form = Err r
 
 -- how many verdicts an answer counts
 abbrev pub count_of : LogAnswer → ℕ
@@ -176,7 +174,7 @@ module _ (table rule : List ℕ) where
 
   -- texts that are accepted, and scraps that have room for their verdicts, of a log that is not too long
   pub record GivenTexts (ss : List Scrap) : Type 0 where
-    pub opened : (opened_of table rule).outcome ≡ Accepted
+    pub opened : (opened_of table rule).outcome ≡ Ok tt
     pub roomy : Roomy ss
     pub short : length (text ss) ≤ longest
 
@@ -184,13 +182,13 @@ module _ (table rule : List ℕ) where
 
   -- a log of the form, and a buffer for the whole-log call: both write the same bytes, and the end says what the whole-log call answers, with the same count
   abbrev pub AsWholeLog : Type 0
-  AsWholeLog = (ss : List Scrap) → GivenTexts ss → (room : ℕ) → (log_read W (text ss)).outcome ≡ Accepted → (log_read W (text ss)).lines ≤ room
+  AsWholeLog = (ss : List Scrap) → GivenTexts ss → (room : ℕ) → (log_read W (text ss)).outcome ≡ Ok tt → (log_read W (text ss)).lines ≤ room
       → heard_of table rule (text ss) room ≡ record { answer = heard_answer (end_of_all ss) (length (said_by_all ss)); bytes = said_by_all ss }
 
   -- a log whose form is refused: the whole-log call answers that 12 and writes nothing; the scraps wrote what it writes for the lines before, and the end says that 12, unless one of
   -- their events is refused
   abbrev pub AsLinesBefore : Type 0
-  AsLinesBefore = (ss : List Scrap) → GivenTexts ss → (room : ℕ) (twelve : Refusal) → (log_read W (text ss)).outcome ≡ Outcomes.Refused twelve → whole_lines W (lines_of W (text ss)) ≤ room
+  AsLinesBefore = (ss : List Scrap) → GivenTexts ss → (room : ℕ) (twelve : Refusal) → (log_read W (text ss)).outcome ≡ Err twelve → whole_lines W (lines_of W (text ss)) ≤ room
       → let before = heard_of table rule (lines_of W (text ss)) room in
       (heard_of table rule (text ss) room ≡ record { answer = Refused twelve; bytes = [] })
-      × (said_by_all ss ≡ before.bytes) × (length (said_by_all ss) ≡ count_of before.answer) × (end_of_all ss ≡ stop_or before.answer (Outcomes.Refused twelve))
+      × (said_by_all ss ≡ before.bytes) × (length (said_by_all ss) ≡ count_of before.answer) × (end_of_all ss ≡ stop_or before.answer (Err twelve))

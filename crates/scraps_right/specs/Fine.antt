@@ -2,7 +2,7 @@
 use Prim.{tt}
 use Prim.Native.Nat.{ℕ, ◌+◌, ◌^◌, ◌≤◌, zero-le}
 use Rattle.std.proofs.Common.{arith, sym, ◌∙◌}
-use Rattle.std.specs.Prelude.{◌≡◌, Bool, true, false, cond, ◌&&◌, ltb, eqb}
+use Rattle.std.specs.Prelude.{◌≡◌, Bool, true, false, cond, ◌&&◌, ltb, eqb, Ok, Err}
 use Rattle.std.proofs.Math.Path.{refl, ap, ap₂, subst}
 use mathlib.Core.List.{List, [], ◌∷◌, ◌++◌}
 use borrow.Author.Tests.{lt-ltb, le-leb}
@@ -13,10 +13,8 @@ use Rattle.pairs.specs.declared.Pairs.{Pairs}
 use Rattle.model.specs.Sets.{PairSet}
 use Rattle.model.specs.Checks.{pairs_ok, pairs_says}
 use Rattle.answers.specs.declared.Kind.TheVariants.{Value, LogText}
-use Rattle.answers.specs.declared.Answer.{Answer}
-use Rattle.answers.specs.declared.Answer.TheVariants as Answers
-use Rattle.answers.specs.declared.Outcome.{Outcome}
-use Rattle.answers.specs.declared.Outcome.TheVariants.{Accepted, Refused}
+use Rattle.answers.specs.Results.{Answer}
+use Rattle.answers.specs.Results.{Outcome}
 use Rattle.answers.specs.Chain.{refused_none, and_then, unless, chain_accepts, unless_accepts}
 use Rattle.answers.specs.Paper.{refused_at}
 use Rattle.plant.specs.declared.Plant.{Plant}
@@ -43,21 +41,21 @@ use Rattle.cuttings.specs.Scraps.{Scrap, ear_back, Fine, radio_after, AllFine, t
 use Rattle.scraps_right.specs.Claims.{fresh, Roomy}
 use Rattle.scraps_right.specs.Texts.{end_of}
 
-and_accepted : (o : Outcome) → and_then o Accepted ≡ o
-and_accepted Accepted = refl
-and_accepted (Refused r) = refl
+and_accepted : (o : Outcome) → and_then o (Ok tt) ≡ o
+and_accepted (Ok _) = refl
+and_accepted (Err r) = refl
 
 -- ---- how many bytes came
 
 -- where nothing was refused, the bytes kept end where the log does
 module _ (w : ℕ) (step : Monitor → Event → Watched) where
   Exact : ℕ → Heard → Type 0
-  Exact n h = h.ear.standing ≡ Accepted → h.ear.start + length h.ear.part ≡ n
+  Exact n h = h.ear.standing ≡ Ok tt → h.ear.start + length h.ear.part ≡ n
 
   exact_answered : (n : ℕ) (h : Heard) (q : List ℕ) → h.ear.start + length q ≡ n → (s : Watched) (a : Answer) → Exact n (answered h q s a)
   unfolding Exact
-  exact_answered n h q long s (Answers.Shown l) = λ _. omega (arith, long)
-  exact_answered n h q long s (Answers.Refused r) = λ e. refused_none e
+  exact_answered n h q long s (Ok l) = λ _. omega (arith, long)
+  exact_answered n h q long s (Err r) = λ e. refused_none e
 
   exact_byte : (n : ℕ) (h : Heard) → Exact n h → (b : ℕ) → Exact (n + 1) (hear w step h b)
   unfolding hear Exact
@@ -69,24 +67,24 @@ module _ (w : ℕ) (step : Monitor → Event → Watched) where
       s : Watched
       s = step h.ear.monitor (event_at w (h.ear.part ++ b ∷ []) 0)
 
-      long : h.ear.standing ≡ Accepted → h.ear.start + length (h.ear.part ++ b ∷ []) ≡ n + 1
+      long : h.ear.standing ≡ Ok tt → h.ear.start + length (h.ear.part ++ b ∷ []) ≡ n + 1
       long e = omega (arith, exact e, length-append h.ear.part (b ∷ []))
 
-      pick : h.ear.standing ≡ Accepted → (t u : Bool) → Exact (n + 1) (cond t (cond u (kept h q) (answered h q s s.answer)) (stopped h (refused_at LogText (h.ear.start + length h.ear.part))))
+      pick : h.ear.standing ≡ Ok tt → (t u : Bool) → Exact (n + 1) (cond t (cond u (kept h q) (answered h q s s.answer)) (stopped h (refused_at LogText (h.ear.start + length h.ear.part))))
       pick e true true = λ _. long e
       pick e true false = exact_answered (n + 1) h q (long e) s s.answer
       pick e false u = λ f. refused_none f
 
       by : (o : Outcome) → h.ear.standing ≡ o → Exact (n + 1) (byte_heard w step o h b)
-      by Accepted e = pick e (begins w h.ear.form q) (ltb (length q) (bytes_in w q))
-      by (Refused r) e = λ f. refused_none (sym e ∙ f)
+      by (Ok _) e = pick e (begins w h.ear.form q) (ltb (length q) (bytes_in w q))
+      by (Err r) e = λ f. refused_none (sym e ∙ f)
 
   exact_all : (s : List ℕ) (n : ℕ) (h : Heard) → Exact n h → Exact (n + length s) (hear_all w step h s)
   unfolding Exact
   exact_all [] n h exact = λ e. omega (arith, exact e)
   exact_all (b ∷ s) n h exact = λ e. omega (arith, exact_all s (n + 1) (hear w step h b) (exact_byte n h exact b) e)
 
-  pub exact_fresh : (s : List ℕ) (m : Monitor) → (hear_all w step (heard_by (fresh m) []) s).ear.standing ≡ Accepted
+  pub exact_fresh : (s : List ℕ) (m : Monitor) → (hear_all w step (heard_by (fresh m) []) s).ear.standing ≡ Ok tt
       → (hear_all w step (heard_by (fresh m) []) s).ear.start + length (hear_all w step (heard_by (fresh m) []) s).ear.part ≡ length s
   unfolding Exact
   exact_fresh s m e = omega (arith, exact_all s 0 (heard_by (fresh m) []) (λ _. refl) e)
@@ -108,7 +106,7 @@ module _ (p : Plant) (fair label next : List ℕ) (rule : Rule) (live : Pairs) w
   unfolding radio_of
   good_fresh m held = record {
     sound = record { keep = record { short = (line_fixed (is_numbered []) w).some; begun = zero-le }; low = zero-le };
-    clean = ap (λ (part : List ℕ). record { part = part; len = 0; start = 0; form = (fresh m).form; standing = Accepted; monitor = m }) (sym padded_none);
+    clean = ap (λ (part : List ℕ). record { part = part; len = 0; start = 0; form = (fresh m).form; standing = Ok tt; monitor = m }) (sym padded_none);
     held = held;
   }
 
@@ -132,8 +130,8 @@ module _ (p : Plant) (fair label next : List ℕ) (rule : Rule) (live : Pairs) w
           ),
         )
 
-    module _ (input : input_outcome p fair label next rule ≡ Accepted) (lives : PairSet (T p fair label next rule) (f p fair label next rule) live.words) where
-      held_fine : held_outcome p fair label next rule live r.monitor ≡ Accepted
+    module _ (input : input_outcome p fair label next rule ≡ Ok tt) (lives : PairSet (T p fair label next rule) (f p fair label next rule) live.words) where
+      held_fine : held_outcome p fair label next rule live r.monitor ≡ Ok tt
       unfolding held_outcome
       held_fine =
           let t = table p fair label next rule in
@@ -166,11 +164,11 @@ module _ (p : Plant) (fair label next : List ℕ) (rule : Rule) (live : Pairs) w
       -- and the end says what stands, and what is kept
       pub end_fine : n ≤ longest → finish_call p fair label next rule live r ≡ and_then r.standing (end_of (ear_of r))
       unfolding finish_call
-      end_fine few = ap₂ (λ (o : Outcome) (k : ℕ). and_then o (cond (eqb k 0) Accepted (Refused (refused_at LogText (r.start + k))))) (kept_fine few) many_kept
+      end_fine few = ap₂ (λ (o : Outcome) (k : ℕ). and_then o (cond (eqb k 0) (Ok tt) (Err (refused_at LogText (r.start + k))))) (kept_fine few) many_kept
 
   -- ---- scrap after scrap
 
-  module _ (full : length rule.nodes ≡ 32) (input : input_outcome p fair label next rule ≡ Accepted) (lives : PairSet (T p fair label next rule) (f p fair label next rule) live.words) where
+  module _ (full : length rule.nodes ≡ 32) (input : input_outcome p fair label next rule ≡ Ok tt) (lives : PairSet (T p fair label next rule) (f p fair label next rule) live.words) where
     next_good : {n : ℕ} {r : Radio} → Good n r → (s : Scrap) → Fine p fair label next rule live r s → Good (n + length s.bytes) (take_call p fair label next rule live r s.bytes s.room).taken.radio
     unfolding take_call radio_of Fine
     next_good {n} {r} good s fine = go (take_outcome p fair label next rule live r s.bytes s.room)
@@ -179,7 +177,7 @@ module _ (p : Plant) (fair label next : List ℕ) (rule : Rule) (live : Pairs) w
         h = hear_all w step (heard_by r []) s.bytes
 
         go : (o : Outcome) → Good (n + length s.bytes) (took_by o r (hear_all w step (heard_by r []) s.bytes)).taken.radio
-        go Accepted =
+        go (Ok _) =
             let sound = sound_all w step s.bytes n (heard_by r []) good.sound in
             let back : ear_of (radio_of h.ear) ≡ h.ear = ear_back w step (width_between p.props).1 (n + length s.bytes) h.ear sound in
             record {
@@ -187,7 +185,7 @@ module _ (p : Plant) (fair label next : List ℕ) (rule : Rule) (live : Pairs) w
               clean = ap radio_of (sym back);
               held = all_fine p fair label next rule ((input_accepted p fair label next rule full).0 input) live lives w s.bytes (heard_by r []) good.held;
             }
-        go (Refused x) = record { sound = record { keep = good.sound.keep; low = omega (arith, good.sound.low) }; clean = good.clean; held = good.held }
+        go (Err x) = record { sound = record { keep = good.sound.keep; low = omega (arith, good.sound.low) }; clean = good.clean; held = good.held }
 
     pub all_good : (ss : List Scrap) {n : ℕ} {r : Radio} → Good n r → Roomy ss → n + length (text ss) ≤ longest
         → AllFine p fair label next rule live r ss × Good (n + length (text ss)) (radio_after p fair label next rule live r ss)

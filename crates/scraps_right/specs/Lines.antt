@@ -1,16 +1,14 @@
 -- LINE BY LINE: the bytes of a whole line, one by one, are one step; so the bytes of some lines are the course of their events.
 use Prim.Native.Nat.{ℕ, zero, suc, ◌/◌, ◌≤◌, ◌<◌, zero-le}
 use Rattle.std.proofs.Common.{arith, le-div_iff_mul-le, subst, ◌∙◌, take-add}
-use Rattle.std.specs.Prelude.{◌≡◌, Bool, true, false, eqb, length, drop, get_or}
+use Rattle.std.specs.Prelude.{◌≡◌, Bool, true, false, eqb, length, drop, get_or, Ok, Err}
 use Rattle.std.proofs.Math.Path.{refl, sym, ap}
 use mathlib.Core.List.{List, [], map-append, foldl-append}
 use borrow.Author.Tests.{lt-ltb, le-ltb, eqb-true}
 use Rattle.std.proofs.Math.ListN.{take, length-take, length-drop}
 use Rattle.answers.specs.declared.Refusal.{Refusal}
-use Rattle.answers.specs.declared.Answer.{Answer}
-use Rattle.answers.specs.declared.Answer.TheVariants as Answers
-use Rattle.answers.specs.declared.Outcome.{Outcome}
-use Rattle.answers.specs.declared.Outcome.TheVariants.{Accepted, Refused}
+use Rattle.answers.specs.Results.{Answer}
+use Rattle.answers.specs.Results.{Outcome}
 use Rattle.text.specs.Slot.{Slot, exactly, admits, matched}
 use Rattle.text.specs.Matched.{first_admits}
 use Rattle.text.specs.Form.{seen}
@@ -41,7 +39,7 @@ form_at numbered (suc k) = form_of numbered
 
 -- nothing is kept of a line, and nothing is refused
 abbrev pub between : ℕ → Form → Monitor → List ℕ → Heard
-between start form m vs = record { ear = record { part = []; start = start; form = form; standing = Accepted; monitor = m }; verdicts = vs }
+between start form m vs = record { ear = record { part = []; start = start; form = form; standing = Ok tt; monitor = m }; verdicts = vs }
 
 -- behind lines of n bytes each: the verdicts of a course, its monitor, and the refusal of its last event, if there is one
 abbrev pub heard_behind : Bool → ℕ → Course → Heard
@@ -106,7 +104,7 @@ module _ (w : ℕ) (step : Monitor → Event → Watched) where
       ∙ rw (le-ltb (good_of w form q) (length q) (omega (arith, good, long)), le-ltb (length q) (bytes_in w q) (omega (arith, size, long))) refl
 
   -- ---- LINES are the course of their events. A step that is refused leaves the monitor
-  module _ (m : Monitor) (s : List ℕ) (still : (x : Monitor) (e : Event) (r : Refusal) → (step x e).answer ≡ Answers.Refused r → (step x e).monitor ≡ x) where
+  module _ (m : Monitor) (s : List ℕ) (still : (x : Monitor) (e : Event) (r : Refusal) → (step x e).answer ≡ Err r → (step x e).monitor ≡ x) where
     abbrev numbered : Bool
     numbered = is_numbered s
 
@@ -140,18 +138,18 @@ module _ (w : ℕ) (step : Monitor → Event → Watched) where
           ap (λ (b : Bool). event_as b w q 0) is ∙ event_is numbered w q 0 (omega (arith, long))
           ∙ guess_front (line_fixed numbered w) (drop (line_start n k) s) n rest_fits (omega arith) ∙ sym (event_is numbered w s k room)
 
-      by_answer : (c : Course) (x : Watched) (a : Answer) → ((r : Refusal) → a ≡ Answers.Refused r → x.monitor ≡ c.went.monitor)
+      by_answer : (c : Course) (x : Watched) (a : Answer) → ((r : Refusal) → a ≡ Err r → x.monitor ≡ c.went.monitor)
           → answered (between (line_start n c.went.done) (form_at numbered c.went.done) c.went.monitor (verdict_bytes c.lamps)) q x a
           ≡ heard_behind numbered n (takes c (number_in c.went.monitor (event_at w s k)) x a)
       unfolding offset
-      by_answer c x (Answers.Shown l) stays = rw (long, is, map-append) refl
-      by_answer c x (Answers.Refused r) stays = rw (stays r refl) refl
+      by_answer c x (Ok l) stays = rw (long, is, map-append) refl
+      by_answer c x (Err r) stays = rw (stays r refl) refl
 
       next : (c : Course) (o : Outcome) → c.went.outcome ≡ o
           → hear_all w step (heard_behind numbered n c) q ≡ heard_behind numbered n (go_on step c (event_at w s k) c.went.outcome)
-      next c (Refused r) e =
+      next c (Err r) e =
           hears_no_more w step (heard_behind numbered n c) (ap (placed_at (line_start n c.went.done)) e) q ∙ ap (λ (o : Outcome). heard_behind numbered n (go_on step c (event_at w s k) o)) (sym e)
-      next c Accepted e =
+      next c (Ok _) e =
           let h = between (line_start n c.went.done) (form_at numbered c.went.done) c.went.monitor (verdict_bytes c.lamps) in
           let x = step c.went.monitor (event_at w s k) in
           ap (λ (o : Outcome). hear_all w step (record { ear = record { part = []; start = line_start n c.went.done; form = form_at numbered c.went.done; standing = placed_at (line_start n c.went.done) o; monitor = c.went.monitor }; verdicts = verdict_bytes c.lamps }) q) e

@@ -1,6 +1,6 @@
 -- A LOG IN SCRAPS: the claims of the two calls, proved.
 use Prim.{tt}
-use Rattle.std.specs.Prelude.{ℕ, ◌+◌, ◌≤◌, ◌≡◌, Bool, true, false, leb, length}
+use Rattle.std.specs.Prelude.{ℕ, ◌+◌, ◌≤◌, ◌≡◌, Bool, true, false, leb, length, Ok, Err}
 use Rattle.std.proofs.Common.{arith, ◌∙◌, length-append}
 use Rattle.std.proofs.Math.Path.{refl, sym, ap}
 use Rattle.std.proofs.lemmas.Bool.{false≢true}
@@ -9,11 +9,8 @@ use Rattle.pairs.specs.declared.Pairs.{Pairs}
 use Rattle.model.specs.Monitor as model
 use Rattle.answers.specs.declared.Kind.TheVariants.{Room, LogLength}
 use Rattle.answers.specs.declared.Refusal.{Refusal}
-use Rattle.answers.specs.declared.Answer.{Answer}
-use Rattle.answers.specs.declared.Answer.TheVariants as Answers
-use Rattle.answers.specs.declared.Outcome.{Outcome}
-use Rattle.answers.specs.declared.Outcome.TheVariants.{Accepted}
-use Rattle.answers.specs.declared.Outcome.TheVariants as Outcomes
+use Rattle.answers.specs.Results.{Answer}
+use Rattle.answers.specs.Results.{Outcome}
 use Rattle.answers.specs.Chain.{and_then, unless}
 use Rattle.plant.specs.declared.Plant.{Plant}
 use Rattle.syntax.specs.declared.Rule.{Rule}
@@ -33,18 +30,18 @@ use Rattle.scraps_right.specs.Fine.{exact_fresh, Good, good_fresh, many_kept, ke
 
 -- ---- a refused step leaves the monitor
 
-still : (p : Plant) (fair label next : List ℕ) (rule : Rule) (live : Pairs) (x : Monitor) (e : Event) (r : Refusal) → (step_call p fair label next rule live x e).answer ≡ Answers.Refused r
+still : (p : Plant) (fair label next : List ℕ) (rule : Rule) (live : Pairs) (x : Monitor) (e : Event) (r : Refusal) → (step_call p fair label next rule live x e).answer ≡ Err r
     → (step_call p fair label next rule live x e).monitor ≡ x
 unfolding step_call
 still p fair label next rule live x e r = by (step_checked p fair label next rule live x e) _ _
   where
     is_shown : Answer → Bool
-    is_shown (Answers.Shown l) = true
-    is_shown (Answers.Refused r) = false
+    is_shown (Ok l) = true
+    is_shown (Err r) = false
 
-    by : (o : Outcome) (k : ℕ) (new : model.Monitor) → (watched o x k new).answer ≡ Answers.Refused r → (watched o x k new).monitor ≡ x
-    by Accepted k new e = absurd (false≢true (sym (ap is_shown e)))
-    by (Outcomes.Refused y) k new e = refl
+    by : (o : Outcome) (k : ℕ) (new : model.Monitor) → (watched o x k new).answer ≡ Err r → (watched o x k new).monitor ≡ x
+    by (Ok _) k new e = absurd (false≢true (sym (ap is_shown e)))
+    by (Err y) k new e = refl
 
 -- ---- lists of scraps
 
@@ -79,18 +76,18 @@ module _ (p : Plant) (fair label next : List ℕ) (rule : Rule) (live : Pairs) w
   -- ---- one call
 
   -- a scrap that is taken is answered by what then stands
-  answer_is : (r : Radio) (s : Scrap) → take_outcome p fair label next rule live r s.bytes s.room ≡ Accepted → (took r s).taken.answer ≡ heard_answer (took r s).taken.radio.standing (length (took r s).verdicts)
+  answer_is : (r : Radio) (s : Scrap) → take_outcome p fair label next rule live r s.bytes s.room ≡ Ok tt → (took r s).taken.answer ≡ heard_answer (took r s).taken.radio.standing (length (took r s).verdicts)
   unfolding take_call radio_of
   answer_is r s e = rw e refl
 
   -- one behind a refusal by that
-  refused_is : (r : Radio) (s : Scrap) {x : Refusal} → kept_outcome p fair label next rule live r ≡ Outcomes.Refused x → took r s ≡ nothing_taken x r
+  refused_is : (r : Radio) (s : Scrap) {x : Refusal} → kept_outcome p fair label next rule live r ≡ Err x → took r s ≡ nothing_taken x r
   unfolding take_call take_outcome
   refused_is r s e = rw e refl
 
   -- and one that is refused for itself by its own
-  none_is : (r : Radio) (s : Scrap) {x : Refusal} → kept_outcome p fair label next rule live r ≡ Accepted
-      → and_then (unless (leb (lines_in s.bytes) s.room) Room) (unless (leb (r.start + r.len + length s.bytes) longest) LogLength) ≡ Outcomes.Refused x → took r s ≡ nothing_taken x r
+  none_is : (r : Radio) (s : Scrap) {x : Refusal} → kept_outcome p fair label next rule live r ≡ Ok tt
+      → and_then (unless (leb (lines_in s.bytes) s.room) Room) (unless (leb (r.start + r.len + length s.bytes) longest) LogLength) ≡ Err x → took r s ≡ nothing_taken x r
   unfolding take_call take_outcome room_outcome
   none_is r s e f = rw (e, f) refl
 

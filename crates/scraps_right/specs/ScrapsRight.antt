@@ -6,7 +6,7 @@ use Rattle.meaning.specs.Run.{Plant}
 use Rattle.meaning.specs.Limits.{AcceptedTable}
 use Rattle.answers.specs.declared.Verdict.{Verdict}
 use Rattle.answers.specs.declared.Verdict.TheVariants.{Inconclusive}
-use Rattle.answers.specs.declared.Outcome.{Outcome}
+use Rattle.answers.specs.Results.{Outcome}
 use Rattle.answers.specs.Paper.{number_of}
 use Rattle.text.specs.Number.{width_of}
 use Rattle.event_log.specs.declared.Event.{Event}

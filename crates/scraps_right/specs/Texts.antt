@@ -2,16 +2,14 @@
 use Prim.Native.Nat.{ℕ, zero, suc, ◌+◌, ◌/◌, ◌≤◌, ◌<◌, zero-le}
 use native.Mathlib.Omega.{arith}
 use Rattle.std.proofs.Common.{le-div_iff_mul-le, div-lt_iff_lt-mul, subst, ◌∙◌, ⊎_elim, lt-ltb, le-ltb, ne_eqb, length-take, length-drop, take_all, get_or-take}
-use Rattle.std.specs.Prelude.{◌≡◌, Bool, cond, drop}
+use Rattle.std.specs.Prelude.{◌≡◌, Bool, cond, drop, Ok, Err}
 use Rattle.std.proofs.Math.Path.{refl, sym, ap, ap₂}
 use mathlib.Core.List.{List, []}
 use Rattle.std.proofs.Math.Dec.{eqb}
 use Rattle.std.proofs.Math.ListN.{length, take}
 use Rattle.answers.specs.declared.Kind.TheVariants.{LogText}
 use Rattle.answers.specs.declared.Refusal.{Refusal}
-use Rattle.answers.specs.declared.Answer.TheVariants as Answers
-use Rattle.answers.specs.declared.Outcome.{Outcome}
-use Rattle.answers.specs.declared.Outcome.TheVariants.{Accepted, Refused}
+use Rattle.answers.specs.Results.{Outcome}
 use Rattle.answers.specs.Chain.{and_then}
 use Rattle.answers.specs.Paper.{refused_at}
 use Rattle.text.specs.Cases.{below_or_beyond}
@@ -36,7 +34,7 @@ use Rattle.scraps_right.specs.Broken.{broken_behind, all_done, broken_heard}
 
 -- what the end says of a line that is not whole
 abbrev pub end_of : Ear → Outcome
-end_of e = cond (eqb (length e.part) 0) Accepted (Refused (refused_at LogText (e.start + length e.part)))
+end_of e = cond (eqb (length e.part) 0) (Ok tt) (Err (refused_at LogText (e.start + length e.part)))
 
 -- ---- the text cut behind lines that fit
 
@@ -114,11 +112,11 @@ module _ (w : ℕ) (s : List ℕ) where
     pub stands : h.ear.standing ≡ and_then (placed_at (line_start n c.went.done) c.went.outcome) (so_far (length s) form)
     pub ends_as : and_then h.ear.standing (end_of h.ear) ≡ and_then (placed_at (line_start n c.went.done) c.went.outcome) form
 
-  and_accepted : (o : Outcome) → o ≡ and_then o Accepted
-  and_accepted Accepted = refl
-  and_accepted (Refused r) = refl
+  and_accepted : (o : Outcome) → o ≡ and_then o (Ok tt)
+  and_accepted (Ok _) = refl
+  and_accepted (Err r) = refl
 
-  found_lined : (c : Course) → Found c Accepted (heard_behind numbered n c)
+  found_lined : (c : Course) → Found c (Ok tt) (heard_behind numbered n c)
   found_lined c = record { verdicts_are = refl; monitor_is = refl; stands = and_accepted (placed_at (line_start n c.went.done) c.went.outcome); ends_as = refl }
 
   module _ (k : ℕ) (more : line_start (bytes_in w s) k < length s) where
@@ -131,11 +129,11 @@ module _ (w : ℕ) (s : List ℕ) where
     abbrev place : ℕ
     place = line_start n k + good
 
-    found_broken : (c : Course) (o : Outcome) → c.went.outcome ≡ o → (c.went.outcome ≡ Accepted → c.went.done ≡ k)
-        → Found c (Refused (refused_at LogText (line_start (bytes_in w s) k + fit_of (line (is_numbered s) w) (drop (line_start (bytes_in w s) k) s)))) (broken_behind c.went.outcome (heard_behind numbered n c) rest good)
-    found_broken c (Refused r) e d = subst (λ (o : Outcome). Found c (Refused (refused_at LogText place)) (broken_behind o (heard_behind numbered n c) rest good)) (sym e)
+    found_broken : (c : Course) (o : Outcome) → c.went.outcome ≡ o → (c.went.outcome ≡ Ok tt → c.went.done ≡ k)
+        → Found c (Err (refused_at LogText (line_start (bytes_in w s) k + fit_of (line (is_numbered s) w) (drop (line_start (bytes_in w s) k) s)))) (broken_behind c.went.outcome (heard_behind numbered n c) rest good)
+    found_broken c (Err r) e d = subst (λ (o : Outcome). Found c (Err (refused_at LogText place)) (broken_behind o (heard_behind numbered n c) rest good)) (sym e)
         (record { verdicts_are = refl; monitor_is = refl; stands = rw e refl; ends_as = rw e refl })
-    found_broken c Accepted e d = subst (λ (o : Outcome). Found c (Refused (refused_at LogText place)) (broken_behind o (heard_behind numbered n c) rest good)) (sym e) (⊎_elim stops keeps (below_or_beyond good (length rest)))
+    found_broken c (Ok _) e d = subst (λ (o : Outcome). Found c (Err (refused_at LogText place)) (broken_behind o (heard_behind numbered n c) rest good)) (sym e) (⊎_elim stops keeps (below_or_beyond good (length rest)))
       where
         done : c.went.done ≡ k
         done = d e
@@ -143,7 +141,7 @@ module _ (w : ℕ) (s : List ℕ) where
         long : length rest + line_start n k ≡ length s
         long = omega (arith, length-drop (line_start n k) s, more)
 
-        stops : good < length rest → Found c (Refused (refused_at LogText place)) (broken_behind Accepted (heard_behind numbered n c) rest good)
+        stops : good < length rest → Found c (Err (refused_at LogText place)) (broken_behind (Ok tt) (heard_behind numbered n c) rest good)
         stops l = rw (lt-ltb good (length rest) l) (record {
           verdicts_are = refl;
           monitor_is = refl;
@@ -151,7 +149,7 @@ module _ (w : ℕ) (s : List ℕ) where
           ends_as = rw (e, done) refl;
         })
 
-        keeps : length rest ≤ good → Found c (Refused (refused_at LogText place)) (broken_behind Accepted (heard_behind numbered n c) rest good)
+        keeps : length rest ≤ good → Found c (Err (refused_at LogText place)) (broken_behind (Ok tt) (heard_behind numbered n c) rest good)
         keeps l =
             let all : good ≡ length rest = omega (arith, matched_text rest ((line numbered w).slots ((line numbered w).guess rest))) in
             rw (le-ltb good (length rest) l) (record {
@@ -176,18 +174,18 @@ module _ (w : ℕ) (s : List ℕ) where
     pub fit : Fit (line (is_numbered s) w) (bytes_in w s) s k
     pub are : lines_of w s ≡ take (line_start (bytes_in w s) k) s
 
-  pub lines_lined : (k : ℕ) → FitTo k → length s ≡ line_start n k → ((log_read w s).outcome ≡ Accepted) × LinesOf k
+  pub lines_lined : (k : ℕ) → FitTo k → length s ≡ line_start n k → ((log_read w s).outcome ≡ Ok tt) × LinesOf k
   unfolding read_as
   lines_lined k fit long =
-      let read : (log_read w s).outcome ≡ Accepted = ap (λ (r : LogRead). r.outcome) (sym (line_end (line numbered w) n (line_fixed numbered w) refused_log accepted_log s k fit (omega (arith, long)))) in
+      let read : (log_read w s).outcome ≡ (Ok tt) = ap (λ (r : LogRead). r.outcome) (sym (line_end (line numbered w) n (line_fixed numbered w) refused_log accepted_log s k fit (omega (arith, long)))) in
       (read, record { fit = fit; are = ap (lines_to n s) read ∙ sym (take_all (line_start n k) s (omega (arith, long))) })
 
   pub lines_broken : (k : ℕ) → FitTo k → line_start n k < length s → fit_of (line numbered w) (drop (line_start n k) s) < n
-      → ((log_read w s).outcome ≡ Refused (refused_at LogText (line_start n k + fit_of (line numbered w) (drop (line_start n k) s)))) × LinesOf k
+      → ((log_read w s).outcome ≡ Err (refused_at LogText (line_start n k + fit_of (line numbered w) (drop (line_start n k) s)))) × LinesOf k
   unfolding read_as
   lines_broken k fit more bad =
       let good = fit_of (line numbered w) (drop (line_start n k) s) in
-      let read : (log_read w s).outcome ≡ Refused (refused_at LogText (line_start n k + good)) =
+      let read : (log_read w s).outcome ≡ Err (refused_at LogText (line_start n k + good)) =
       ap (λ (r : LogRead). r.outcome) (sym (line_off (line numbered w) n (line_fixed numbered w) refused_log accepted_log s (line_start n k) k good ((line numbered w).guess (drop (line_start n k) s)) refl fit more (record { is = refl; goes = refl }) bad)) in
       (read, record { fit = fit; are = ap (lines_to n s) read ∙ ap (λ (j : ℕ). take (line_start n j) s) (lines_before k more bad) })
 
@@ -211,7 +209,7 @@ module _ (w : ℕ) (s : List ℕ) where
       subst (λ (t : List ℕ). line_start (bytes_in w t) (course_to step m (event_at w t) (whole_lines w t)).went.done ≡ line_start n (course_to step m (event_at w t) (whole_lines w t)).went.done) (sym l.are)
       (subst (λ (c : Course). line_start (bytes_in w (cut k)) c.went.done ≡ line_start n c.went.done) (sym (cut_course step m k l.fit)) (cut_start step m k))
 
-  module _ (step : Monitor → Event → Watched) (m : Monitor) (still : (x : Monitor) (e : Event) (r : Refusal) → (step x e).answer ≡ Answers.Refused r → (step x e).monitor ≡ x) where
+  module _ (step : Monitor → Event → Watched) (m : Monitor) (still : (x : Monitor) (e : Event) (r : Refusal) → (step x e).answer ≡ Err r → (step x e).monitor ≡ x) where
     abbrev C : ℕ → Course
     C k = course_to step m (event_at w s) k
 

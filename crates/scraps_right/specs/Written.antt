@@ -1,7 +1,7 @@
 -- No verdict is lost: an event is answered by the LF that ends its line, so a scrap gives no more verdicts than it has LFs.
 use Prim.Native.Nat.{ℕ, ◌+◌, ◌≤◌, ◌<◌, zero-le}
 use native.Mathlib.Omega.{arith}
-use Rattle.std.specs.Prelude.{◌≡◌, refl, Bool, true, false, cond, ltb, leb, length, drop, get_or}
+use Rattle.std.specs.Prelude.{◌≡◌, refl, Bool, true, false, cond, ltb, leb, length, drop, get_or, Ok, Err}
 use Rattle.std.proofs.Common.{sym, ap, subst, ◌∙◌, ⊎_elim, lt-ltb, leb-true, length-append, drop_at}
 use Rattle.std.proofs.lemmas.Bool.{false≢true}
 use mathlib.Core.List.{List, [], ◌∷◌, ◌++◌, append_assoc}
@@ -10,10 +10,8 @@ use Rattle.words.specs.Word.{digit}
 use Rattle.words.specs.Folds.{count_first}
 use Rattle.pairs.specs.declared.Pairs.{Pairs}
 use Rattle.answers.specs.declared.Kind.TheVariants.{LogText, Room, LogLength}
-use Rattle.answers.specs.declared.Answer.{Answer}
-use Rattle.answers.specs.declared.Answer.TheVariants as Answers
-use Rattle.answers.specs.declared.Outcome.{Outcome}
-use Rattle.answers.specs.declared.Outcome.TheVariants.{Accepted, Refused}
+use Rattle.answers.specs.Results.{Answer}
+use Rattle.answers.specs.Results.{Outcome}
 use Rattle.answers.specs.Chain.{unless, chain_accepts, unless_accepts}
 use Rattle.answers.specs.Paper.{number_of, refused_at}
 use Rattle.plant.specs.declared.Plant.{Plant}
@@ -92,8 +90,8 @@ ends_line w form part b begun full = by (agrees form (is_numbered (part ++ b ∷
 
 module _ (w : ℕ) (step : Monitor → Event → Watched) where
   by_answer : (h : Heard) (q : List ℕ) (s : Watched) (a : Answer) → length (answered h q s a).verdicts ≤ length h.verdicts + 1
-  by_answer h q s (Answers.Shown l) = omega (arith, length-append h.verdicts (number_of l.verdict ∷ []))
-  by_answer h q s (Answers.Refused r) = omega arith
+  by_answer h q s (Ok l) = omega (arith, length-append h.verdicts (number_of l.verdict ∷ []))
+  by_answer h q s (Err r) = omega arith
 
   byte_few : (h : Heard) (b : ℕ) → length (hear w step h b).verdicts ≤ length h.verdicts + digit (eqb b 10)
   unfolding hear
@@ -114,8 +112,8 @@ module _ (w : ℕ) (step : Monitor → Event → Watched) where
           rw (ends_line w h.ear.form h.ear.part b (leb-true (length q) (good_of w h.ear.form q) e) full) (by_answer h q s s.answer)
 
       by : (o : Outcome) → length (byte_heard w step o h b).verdicts ≤ length h.verdicts + digit (eqb b 10)
-      by Accepted = pick (begins w h.ear.form q) (ltb (length q) (bytes_in w q)) refl refl
-      by (Refused r) = omega arith
+      by (Ok _) = pick (begins w h.ear.form q) (ltb (length q) (bytes_in w q)) refl refl
+      by (Err r) = omega arith
 
   all_few : (s : List ℕ) (h : Heard) → length (hear_all w step h s).verdicts ≤ length h.verdicts + lines_in s
   unfolding lines_in
@@ -129,8 +127,8 @@ unfolding take_call room_outcome
 few_verdicts p fair label next rule live r scrap room = by (take_outcome p fair label next rule live r scrap room) refl
   where
     by : (o : Outcome) → take_outcome p fair label next rule live r scrap room ≡ o → length (took_by o r (hear_all (width_of p.props) (step_call p fair label next rule live) (heard_by r []) scrap)).verdicts ≤ room
-    by (Refused x) e = zero-le
-    by Accepted e =
+    by (Err x) e = zero-le
+    by (Ok _) e =
         let (a, b) = (chain_accepts (unless (leb (lines_in scrap) room) Room) (unless (leb (r.start + r.len + length scrap) longest) LogLength)).0 (take_parts p fair label next rule live r scrap room e).1 in
         omega (arith, leb-true (lines_in scrap) room ((unless_accepts _ Room).0 a), all_few (width_of p.props) (step_call p fair label next rule live) scrap (heard_by r []))
 

@@ -1,5 +1,5 @@
 -- The claims of Sensors proved: what a better sensor sees is finer with the unseen events put in too, the calls show what the runs say, and fewer runs agree.
-use Rattle.std.specs.Prelude.{ℕ, zero, suc, ◌+◌, ◌^◌, ◌≤◌, ◌<◌, ◌≡◌, refl, Bool, true, false, length, get_or, take, replicate}
+use Rattle.std.specs.Prelude.{ℕ, zero, suc, ◌+◌, ◌^◌, ◌≤◌, ◌<◌, ◌≡◌, refl, Bool, true, false, length, get_or, take, replicate, Ok}
 use Rattle.std.proofs.Common.{arith, sym, ap, subst, ◌∙◌}
 use mathlib.Core.List.Forall₂
 use mathlib.Core.List.{List, [], ◌∷◌, ◌++◌, map}
@@ -15,7 +15,6 @@ use Rattle.model.specs.Log.{FinerLog, since_finer}
 use Rattle.answers.specs.declared.Verdict.{Verdict}
 use Rattle.answers.specs.declared.Verdict.TheVariants.{Inconclusive}
 use Rattle.answers.specs.declared.Lamp.{Lamp}
-use Rattle.answers.specs.declared.Answer.TheVariants.{Shown}
 use Rattle.answers.specs.Paper as paper
 use Rattle.syntax.specs.declared.Rule.{Rule}
 use Rattle.syntax.specs.Value.{formula_of}
@@ -127,10 +126,10 @@ module _ (x : Lent) (rule : Rule) (input : AcceptedWith x rule) (es : List Event
   abbrev lamp : Lamp
   lamp = lamp_in (model.run_of (table_of x) f (live_set (table_of x) f) (filled (take (suc n) es)))
 
-  lamp_shown : answer_at x rule es n ≡ Shown lamp
+  lamp_shown : answer_at x rule es n ≡ Ok lamp
   lamp_shown = ap (λ (w : Watched). w.answer) (after_model x.counts x.fair x.label x.next rule input (take (suc n) es) all)
 
-  lamp_lit : Lit (table_of x) f told_by_lem (Shown lamp)
+  lamp_lit : Lit (table_of x) f told_by_lem (Ok lamp)
   lamp_lit = subst (λ (w : Watched). Lit (table_of x) f told_by_lem w.answer) (after_model x.counts x.fair x.label x.next rule input (take (suc n) es) all)
       (lamp_right x.counts x.fair x.label x.next rule input (take (suc n) es) all)
 
@@ -217,7 +216,7 @@ all_ended t taken (door.at_event k low before bad) = absurd (bad (taken k low).0
 all_ended t taken (door.at_number k low before legal bad) = absurd (bad (taken k low).1)
 
 line_lit : (t : run.Plant) (f : Formula) (es : List Event) (output : List ℕ) (s : Shows t f es output) → AcceptedLog t es → (n : ℕ) → n < length es
-    → Lit t f (since (filled (take (suc n) es))) (Shown (lamp_at s n))
+    → Lit t f (since (filled (take (suc n) es))) (Ok (lamp_at s n))
 line_lit t f es output s taken n low = s.line_right n (rw (all_ended t taken s.ends) low)
 
 pub better_lines : BetterLines

@@ -1,5 +1,5 @@
 -- Where fewer runs agree, the lamp says at least as much: of two tables and histories, by the runs alone.
-use Rattle.std.specs.Prelude.{ℕ, zero, suc, ◌≤◌, ◌<◌, ◌≡◌, refl, ◌⊎◌, Bool, true, false, not, length}
+use Rattle.std.specs.Prelude.{ℕ, zero, suc, ◌≤◌, ◌<◌, ◌≡◌, refl, ◌⊎◌, Bool, true, false, not, length, Ok}
 use Rattle.std.proofs.Common.{arith, sym, ap, subst, ◌∙◌, inl, inr}
 use mathlib.Core.List.{List, Forall₂}
 use Rattle.words.specs.Below.{count_below}
@@ -13,7 +13,6 @@ use Rattle.theory.specs.Narrow.{Narrower, Finer, FinerHistory}
 use Rattle.answers.specs.declared.Verdict.{Verdict}
 use Rattle.answers.specs.declared.Verdict.TheVariants.{Inconclusive, True, False, OutOfModel}
 use Rattle.answers.specs.declared.Lamp.{Lamp}
-use Rattle.answers.specs.declared.Answer.TheVariants.{Shown}
 use Rattle.answers.specs.Paper.{Paper, verdict, refused, accepted, number_of}
 use Rattle.promises.specs.Demand.{Lit}
 use Rattle.front_door.proofs.OneOutput.{lit_right}
@@ -83,7 +82,7 @@ module _ (T T' : Plant) (h h' : History) (fewer : Fewer T T' h h') (f : Formula)
   left_of_lem (refused n place) = 0
   left_of_lem (accepted l) = 0
 
-  pub lit_narrows : (l l' : Lamp) → Lit T f h (Shown l) → Lit T' f h' (Shown l') → AsMuch l l'
+  pub lit_narrows : (l l' : Lamp) → Lit T f h (Ok l) → Lit T' f h' (Ok l') → AsMuch l l'
   lit_narrows l l' lit lit' = record {
     verdict = right_narrows l.verdict l'.verdict (lit_right T f l lit) (lit_right T' f l' lit');
     left = subst (λ (n : ℕ). n ≤ l.left) (sym there) (subst (λ (n : ℕ). count_below T'.states lit'.counts.0 ≤ n) (sym here) counted);

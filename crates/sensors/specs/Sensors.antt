@@ -2,7 +2,7 @@
 -- the program. Better proves them; this page has no proof, so what it takes from other files is what must be believed. Needed (sensors_needed/specs) shows that no hypothesis can be left out.
 -- Read beside it: `Narrower` (theory/specs/Narrow), which says what a lamp may change to; `number_at` (watching/specs/Filled), the number that an event takes; `after` (watching/specs/Watching),
 -- what the calls give, event after event; WholeLog and FrontDoor (front_door/specs) for texts.
-use Rattle.std.specs.Prelude.{ℕ, suc, ◌≤◌, ◌<◌, ◌≡◌, List, length, get_or, take}
+use Rattle.std.specs.Prelude.{ℕ, suc, ◌≤◌, ◌<◌, ◌≡◌, List, length, get_or, take, Ok}
 use Rattle.std.proofs.Math.Bool.{So}
 use Rattle.meaning.specs.Bit.{bit}
 use Rattle.meaning.specs.Formula.{Formula}
@@ -11,8 +11,7 @@ use Rattle.meaning.specs.Run.{next_of}
 use Rattle.meaning.specs.Limits.{AcceptedTable}
 use Rattle.theory.specs.Narrow.{Narrower}
 use Rattle.answers.specs.declared.Lamp.{Lamp}
-use Rattle.answers.specs.declared.Answer.{Answer}
-use Rattle.answers.specs.declared.Answer.TheVariants.{Shown}
+use Rattle.answers.specs.Results.{Answer}
 use Rattle.answers.specs.Paper.{number_of}
 use Rattle.plant.specs.declared.Plant.{Plant}
 use Rattle.plant.specs.Table.{plant_of}
@@ -70,8 +69,8 @@ pub record AsMuch (l l' : Lamp) : Type 0 where
 pub record NoWorse (a a' : Answer) : Type 0 where
   pub first : Lamp
   pub second : Lamp
-  pub shown : a ≡ Shown first
-  pub shown' : a' ≡ Shown second
+  pub shown : a ≡ Ok first
+  pub shown' : a' ≡ Ok second
   pub as_much : AsMuch first second
 
 -- ---- THE CLAIMS on the calls, with a table lent in its parts

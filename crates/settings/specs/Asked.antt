@@ -1,5 +1,5 @@
 -- The answers of `ask`, as the code makes them.
-use Rattle.std.specs.Prelude.{cond, List, ℕ, ◌+◌, eqb}
+use Rattle.std.specs.Prelude.{cond, List, ℕ, ◌+◌, eqb, Result, Ok, Err}
 use Rattle.sheet.specs.declared.Key.{Key}
 use Rattle.sheet.specs.declared.Lines.{Lines}
 use Rattle.sheet.specs.declared.Scan.{Scan}
@@ -10,8 +10,6 @@ use Rattle.answers.specs.declared.Kind.{Kind}
 use Rattle.answers.specs.declared.Kind.TheVariants.{NoKey, SheetText}
 use Rattle.settings.specs.declared.Spot.{Spot}
 use Rattle.settings.specs.declared.SheetRefusal.{SheetRefusal}
-use Rattle.settings.specs.declared.Asked.{Asked}
-use Rattle.settings.specs.declared.Asked.TheVariants.{At, Refused}
 use Rattle.settings.specs.Part.{spot_at}
 
 abbrev pub refusal_of : Kind → ℕ → ℕ → SheetRefusal
@@ -22,20 +20,20 @@ abbrev pub spot_in : ℕ → Key → Lines → Spot
 spot_in n key l = spot_at n (start_of key l) (start_of key l + length_of key l)
 
 -- both sheets are in order: the local line's value where there is one, and else that of the shared line
-unfoldable pub chosen : Lines → Lines → Key → Asked
+unfoldable pub chosen : Lines → Lines → Key → Result Spot SheetRefusal
 chosen own common key =
-    cond (eqb (length_of key own) 0) (cond (eqb (length_of key common) 0) (Refused (refusal_of NoKey 0 0)) (At (spot_in 2 key common))) (At (spot_in 1 key own))
+    cond (eqb (length_of key own) 0) (cond (eqb (length_of key common) 0) (Err (refusal_of NoKey 0 0)) (Ok (spot_in 2 key common))) (Ok (spot_in 1 key own))
 
 -- the local sheet is checked before the shared one, and both before a key is looked for
-abbrev pub judged : Scan → Scan → Key → Asked
-judged (Bad i) common key = Refused (refusal_of SheetText 1 i)
-judged (Good own) (Bad i) key = Refused (refusal_of SheetText 2 i)
+abbrev pub judged : Scan → Scan → Key → Result Spot SheetRefusal
+judged (Bad i) common key = Err (refusal_of SheetText 1 i)
+judged (Good own) (Bad i) key = Err (refusal_of SheetText 2 i)
 judged (Good own) (Good common) key = chosen own common key
 
-unfoldable pub asked : List ℕ → List ℕ → Key → Asked
+unfoldable pub asked : List ℕ → List ℕ → Key → Result Spot SheetRefusal
 asked local shared key = judged (scan_of local) (scan_of shared) key
 
 -- the spot of an answer; no bytes where it is a refusal
-abbrev pub spot_of : Asked → Spot
-spot_of (At p) = p
-spot_of (Refused r) = spot_at 1 0 0
+abbrev pub spot_of : Result Spot SheetRefusal → Spot
+spot_of (Ok p) = p
+spot_of (Err r) = spot_at 1 0 0

@@ -1,6 +1,6 @@
 -- What asking for a setting promises. The contracts of ask and look_up are equations, `r ≡ asked local shared key`, and say which part of which sheet the bytes are (`IsPart`); what
 -- that means is said here by specs/Answers.
-use Rattle.std.specs.Prelude.{◌≡◌, refl, Bool, true, false, cond, List, [], ℕ, ◌+◌, ◌-◌, ◌<◌, ◌↔◌, eqb, length}
+use Rattle.std.specs.Prelude.{◌≡◌, refl, Bool, true, false, cond, List, [], ℕ, ◌+◌, ◌-◌, ◌<◌, ◌↔◌, eqb, length, Result, Ok, Err}
 use Rattle.std.proofs.Common.{sym, ap, ap₂, ◌∙◌, arith, eqb-true, eq-eqb, ne_eqb, le-ltb}
 use Rattle.std.proofs.lemmas.Bool.{false≢true}
 use Rattle.std.specs.Borrow.{Bor}
@@ -12,8 +12,8 @@ use Rattle.sheet.specs.Machine.{scan_of}
 use Rattle.sheet.specs.Read.{lines_of}
 use Rattle.sheet.proofs.Promises.{accepted_exactly, refused_exactly}
 use Rattle.sheet.specs.Where.{length_of, length_told, start_told, value_stands, value_within, empty}
-use Rattle.settings.specs.declared.Asked.{Asked}
-use Rattle.settings.specs.declared.Asked.TheVariants.{At, Refused}
+use Rattle.settings.specs.declared.Spot.{Spot}
+use Rattle.settings.specs.declared.SheetRefusal.{SheetRefusal}
 use Rattle.answers.specs.declared.Kind.TheVariants.{NoKey}
 use Rattle.settings.specs.Part.{spot_at, fitting, bytes_at, shifted, IsPart}
 use Rattle.settings.specs.Asked.{refusal_of, spot_in, chosen, judged, asked}
@@ -44,13 +44,13 @@ sheet_scan s x is = (accepted_exactly s (lines_of x)).1 (record { values = x; sh
 -- ---- the promises
 
 -- the answer is the one that the request says, and no other
-pub asked_exactly : (local shared : List ℕ) (key : Key) (a : Asked) → (asked local shared key ≡ a) ↔ Answers local shared key a
+pub asked_exactly : (local shared : List ℕ) (key : Key) (a : Result Spot SheetRefusal) → (asked local shared key ≡ a) ↔ Answers local shared key a
 unfolding asked chosen
 asked_exactly local shared key a = (λ e. rw (← e) (there (scan_of local) refl (scan_of shared) refl), back)
   where
     found :
         (x y : Values) → IsSheet local x → IsSheet shared y → (t : Bool) → eqb (length_of key (lines_of x)) 0 ≡ t → (u : Bool) → eqb (length_of key (lines_of y)) 0 ≡ u
-        → Answers local shared key (cond t (cond u (Refused (refusal_of NoKey 0 0)) (At (spot_in 2 key (lines_of y)))) (At (spot_in 1 key (lines_of x))))
+        → Answers local shared key (cond t (cond u (Err (refusal_of NoKey 0 0)) (Ok (spot_in 2 key (lines_of y)))) (Ok (spot_in 1 key (lines_of x))))
     found x y is it false e u f = rw (spot_told 1 key x) (in_local is it (one_of key x e))
     found x y is it true e false f = rw (spot_told 2 key y) (in_shared is it (none_of key x e) (one_of key y f))
     found x y is it true e true f = in_neither is it (none_of key x e) (none_of key y f)
@@ -63,7 +63,7 @@ asked_exactly local shared key a = (λ e. rw (← e) (there (scan_of local) refl
         let b = (accepted_exactly shared m).0 f in
         rw (a.lines, b.lines) (found a.values b.values a.sheet b.sheet _ refl _ refl)
 
-    back : {a : Asked} → Answers local shared key a → asked local shared key ≡ a
+    back : {a : Result Spot SheetRefusal} → Answers local shared key a → asked local shared key ≡ a
     back (local_malformed {i} m) = rw ((refused_exactly local i).1 m) refl
     back (shared_malformed {x} {i} is m) = rw (sheet_scan local x is, (refused_exactly shared i).1 m) refl
     back (in_local {x} {y} is it h) = rw (sheet_scan local x is, sheet_scan shared y it, has_one key x h, spot_told 1 key x) refl

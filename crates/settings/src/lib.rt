@@ -25,17 +25,10 @@ pub struct SheetRefusal {
     pub place: usize,
 }
 
-// Where the value is, or the refusal.
-#[derive(Clone, Copy)]
-pub enum Asked {
-    At(Spot),
-    Refused(SheetRefusal),
-}
-
 // An enum holds no reference, so the bytes stand beside the answer.
 #[derive(Clone, Copy)]
 pub struct Setting<'a> {
-    pub answer: Asked,
+    pub answer: Result<Spot, SheetRefusal>,
     pub bytes: &'a [u8],
 }
 
@@ -88,17 +81,17 @@ fn spot_in(n: u8, lines: Lines, key: Key) -> Spot
 
 // The answer of two sheets of which the lines are known.
 #[tactic(auto, unfolding(crate::specs::Asked::chosen))]
-fn choose(own: Lines, common: Lines, key: Key) -> Asked
+fn choose(own: Lines, common: Lines, key: Key) -> Result<Spot, SheetRefusal>
     requires { Few own × Few common }
     ensures { result ≡ chosen own common key }
 {
     if length_of(own, key) != 0 {
-        return Asked::At(spot_in(1, own, key));
+        return Ok(spot_in(1, own, key));
     }
     if length_of(common, key) != 0 {
-        return Asked::At(spot_in(2, common, key));
+        return Ok(spot_in(2, common, key));
     }
-    Asked::Refused(SheetRefusal {
+    Err(SheetRefusal {
         kind: Kind::NoKey,
         sheet: 0,
         place: 0,
@@ -107,16 +100,16 @@ fn choose(own: Lines, common: Lines, key: Key) -> Asked
 
 // Where the value of a key stands, or the refusal: 18 for the local sheet, 18 for the shared one, then 17.
 #[tactic(auto, using(sheet::proofs::Where::scan_few), unfolding(crate::specs::Asked::asked))]
-pub fn ask<'a>(local: &'a [u8], shared: &'a [u8], key: Key) -> Asked
+pub fn ask<'a>(local: &'a [u8], shared: &'a [u8], key: Key) -> Result<Spot, SheetRefusal>
     ensures { result ≡ asked local.now shared.now key }
 {
     match (sheet::scan_sheet(local), sheet::scan_sheet(shared)) {
-        (Scan::Bad(place), _) => Asked::Refused(SheetRefusal {
+        (Scan::Bad(place), _) => Err(SheetRefusal {
             kind: Kind::SheetText,
             sheet: 1,
             place,
         }),
-        (_, Scan::Bad(place)) => Asked::Refused(SheetRefusal {
+        (_, Scan::Bad(place)) => Err(SheetRefusal {
             kind: Kind::SheetText,
             sheet: 2,
             place,
@@ -144,12 +137,12 @@ fn value<'a>(local: &'a [u8], shared: &'a [u8], spot: Spot) -> &'a [u8]
 }
 
 // The bytes of an answer; none where it is a refusal.
-pub fn value_of<'a>(local: &'a [u8], shared: &'a [u8], a: Asked) -> &'a [u8]
+pub fn value_of<'a>(local: &'a [u8], shared: &'a [u8], a: Result<Spot, SheetRefusal>) -> &'a [u8]
     ensures { IsPart (spot_of a) local.entry shared.entry result }
 {
     match a {
-        Asked::At(spot) => value(local, shared, spot),
-        Asked::Refused(_) => value(
+        Ok(spot) => value(local, shared, spot),
+        Err(_) => value(
             local,
             shared,
             Spot {

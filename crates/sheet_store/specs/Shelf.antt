@@ -1,12 +1,11 @@
 -- What a store holds: texts of ascending editions, the oldest first; and what the calls do with them.
-use Rattle.std.specs.Prelude.{ℕ, suc, ◌+◌, ◌-◌, ◌≤◌, ◌<◌, ◌≡◌, refl, Bool, true, false, cond, List, [], ◌∷◌, ◌++◌, ◌⊎◌, eqb, ltb, length, get_or, take, drop, set, replicate}
+use Rattle.std.specs.Prelude.{ℕ, suc, ◌+◌, ◌-◌, ◌≤◌, ◌<◌, ◌≡◌, refl, Bool, true, false, cond, List, [], ◌∷◌, ◌++◌, ◌⊎◌, eqb, ltb, length, get_or, take, drop, set, replicate, Ok}
 use Rattle.std.proofs.Common.{sym, ap, ap₂, ◌∙◌, inl, inr, arith, add-one, length-append, length-drop, length-set, take-suc-set, take_at, take_all, length-take-le, get_or-take, eq-eqb, ne_eqb, lt-ltb, le-ltb}
 use Rattle.std.proofs.Math.Seq.{take-append_seam}
 use Rattle.words.specs.Over.{over}
 use Rattle.answers.specs.declared.Kind.TheVariants.{Room, NotHeld}
 use Rattle.sheet_store.specs.declared.Kept.{Kept}
 use Rattle.sheet_store.specs.declared.Store.{Store}
-use Rattle.sheet_store.specs.declared.Copied.TheVariants as Copies
 use Rattle.sheet_store.specs.Store.{store_as, kept_as, text_in, edition_of, edition_in, kept_of, slid, dropped, pushed, blank, some_long, overfull_of, newest_of, place_of, Out, keeps, copied}
 
 -- ---- editions
@@ -203,7 +202,7 @@ shelf_newest st (t ∷ ts) h = by_kept (take st.count st.sheets) refl h.kept
 
 -- a sheet that is held is put at the buffer's start, byte for byte; the buffer's other bytes stay, and one that is too short stays as it is
 abbrev pub copy_of : List ℕ → List ℕ → Out
-copy_of s buf = cond (ltb (length buf) (length s)) (keeps Room buf) (record { answer = Copies.Sheet (record { bytes = length s }); buffer = over s buf })
+copy_of s buf = cond (ltb (length buf) (length s)) (keeps Room buf) (record { answer = Ok (record { bytes = length s }); buffer = over s buf })
 
 pub shelf_copies :
     (st : Store) (before bs : List (List ℕ)) (s : List ℕ) (buf : List ℕ) → Shelf st (before ++ s ∷ bs) → copied st (edition_of s) buf ≡ copy_of s buf

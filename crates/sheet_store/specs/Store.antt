@@ -1,5 +1,5 @@
 -- The store's calls as the code makes them.
-use Rattle.std.specs.Prelude.{ℕ, suc, ◌+◌, ◌-◌, Bool, true, false, cond, List, [], ◌∷◌, ◌++◌, eqb, ltb, leb, length, get_or, take, drop, set, replicate}
+use Rattle.std.specs.Prelude.{ℕ, suc, ◌+◌, ◌-◌, Bool, true, false, cond, List, [], ◌∷◌, ◌++◌, eqb, ltb, leb, length, get_or, take, drop, set, replicate, Result, Ok, Err}
 use Rattle.words.specs.Over.{over}
 use Rattle.sheet.specs.declared.Scan.{Scan}
 use Rattle.sheet.specs.declared.Scan.TheVariants.{Good, Bad}
@@ -10,10 +10,9 @@ use Rattle.settings.specs.Asked.{refusal_of}
 use Rattle.sheet_store.specs.declared.Kept.{Kept}
 use Rattle.sheet_store.specs.declared.Store.{Store}
 use Rattle.sheet_store.specs.declared.Added.{Added}
-use Rattle.sheet_store.specs.declared.AddAnswer.{AddAnswer}
-use Rattle.sheet_store.specs.declared.AddAnswer.TheVariants as Adds
-use Rattle.sheet_store.specs.declared.Copied.{Copied}
-use Rattle.sheet_store.specs.declared.Copied.TheVariants as Copies
+use Rattle.sheet_store.specs.declared.Sheets.{Sheets}
+use Rattle.settings.specs.declared.SheetRefusal.{SheetRefusal}
+use Rattle.sheet_store.specs.declared.Length.{Length}
 
 abbrev pub store_as : ℕ → List Kept → Store
 store_as n ks = record { count = n; sheets = ks }
@@ -74,14 +73,14 @@ newest_of st = cond (eqb st.count 0) 0 (edition_in (get_or st.sheets (st.count -
 
 -- ---- adding
 
-abbrev pub added_as : AddAnswer → Store → Added
+abbrev pub added_as : Result Sheets SheetRefusal → Store → Added
 added_as a st = record { answer = a; store = st }
 
 abbrev pub refused_as : Kind → ℕ → ℕ → Store → Added
-refused_as k sheet place st = added_as (Adds.Refused (refusal_of k sheet place)) st
+refused_as k sheet place st = added_as (Err (refusal_of k sheet place)) st
 
 abbrev pub held_as : Store → Added
-held_as st = added_as (Adds.Held (record { count = st.count })) st
+held_as st = added_as (Ok (record { count = st.count })) st
 
 -- by the edition's number
 unfoldable pub added_by : Store → List ℕ → ℕ → Added
@@ -105,17 +104,17 @@ place_of e (t ∷ ts) = cond (eqb (edition_in t) e) 0 (suc (place_of e ts))
 
 -- an answer, and the buffer
 pub record Out : Type 0 where
-  pub answer : Copied
+  pub answer : Result Length SheetRefusal
   pub buffer : List ℕ
 
-abbrev pub no_copy : Kind → Copied
-no_copy k = Copies.Refused (refusal_of k 0 0)
+abbrev pub no_copy : Kind → Result Length SheetRefusal
+no_copy k = Err (refusal_of k 0 0)
 
 abbrev pub keeps : Kind → List ℕ → Out
 keeps k buf = record { answer = no_copy k; buffer = buf }
 
 abbrev pub copied_kept : Kept → List ℕ → Out
-copied_kept t buf = cond (ltb (length buf) t.len) (keeps Room buf) (record { answer = Copies.Sheet (record { bytes = t.len }); buffer = over (text_in t) buf })
+copied_kept t buf = cond (ltb (length buf) t.len) (keeps Room buf) (record { answer = Ok (record { bytes = t.len }); buffer = over (text_in t) buf })
 
 abbrev pub copied_at : ℕ → Store → List ℕ → Out
 copied_at i st buf = cond (ltb i st.count) (copied_kept (get_or st.sheets i blank) buf) (keeps NotHeld buf)

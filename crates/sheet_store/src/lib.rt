@@ -47,17 +47,10 @@ pub struct Sheets {
     pub count: usize,
 }
 
-// How many sheets are kept now, or the refusal.
-#[derive(Clone, Copy)]
-pub enum AddAnswer {
-    Held(Sheets),
-    Refused(SheetRefusal),
-}
-
 // The answer of add, and the store after it.
 #[derive(Clone, Copy)]
 pub struct Added {
-    pub answer: AddAnswer,
+    pub answer: Result<Sheets, SheetRefusal>,
     pub store: Store,
 }
 
@@ -65,13 +58,6 @@ pub struct Added {
 #[derive(Clone, Copy)]
 pub struct Length {
     pub bytes: usize,
-}
-
-// How many bytes were copied, or the refusal.
-#[derive(Clone, Copy)]
-pub enum Copied {
-    Sheet(Length),
-    Refused(SheetRefusal),
 }
 
 // Whether a store counts more than it may: more than eight sheets, or a sheet of more than 1,024 bytes. No call makes such a store, but any may be handed in.
@@ -154,7 +140,7 @@ fn refuse(store: Store, kind: Kind, sheet: u8, place: usize) -> Added
     ensures { result ≡ refused_as kind sheet place store }
 {
     Added {
-        answer: AddAnswer::Refused(SheetRefusal { kind, sheet, place }),
+        answer: Err(SheetRefusal { kind, sheet, place }),
         store,
     }
 }
@@ -164,7 +150,7 @@ fn accept(store: Store) -> Added
     ensures { result ≡ held_as store }
 {
     Added {
-        answer: AddAnswer::Held(Sheets { count: store.count }),
+        answer: Ok(Sheets { count: store.count }),
         store,
     }
 }
@@ -213,10 +199,10 @@ fn find(store: Store, edition: usize) -> Option<usize>
 }
 
 // A refusal of copying out.
-fn no_copy(kind: Kind) -> Copied
+fn no_copy(kind: Kind) -> Result<Length, SheetRefusal>
     ensures { result ≡ no_copy kind }
 {
-    Copied::Refused(SheetRefusal {
+    Err(SheetRefusal {
         kind,
         sheet: 0,
         place: 0,
@@ -224,7 +210,7 @@ fn no_copy(kind: Kind) -> Copied
 }
 
 // A kept sheet into a buffer that may be too short.
-fn copy_kept(kept: Kept, buffer: &mut [u8]) -> Copied
+fn copy_kept(kept: Kept, buffer: &mut [u8]) -> Result<Length, SheetRefusal>
     requires { kept.len ≤ 1024 }
     ensures answer { result ≡ (copied_kept kept buffer.old).answer }
     ensures buffer { buffer.new ≡ (copied_kept kept buffer.old).buffer }
@@ -233,12 +219,12 @@ fn copy_kept(kept: Kept, buffer: &mut [u8]) -> Copied
         return no_copy(Kind::Room);
     }
     buffer[..kept.len].copy_from_slice(&kept.bytes[..kept.len]);
-    Copied::Sheet(Length { bytes: kept.len })
+    Ok(Length { bytes: kept.len })
 }
 
 // Copies out the sheet of an edition. Refused by 9 if the store counts more than it may, 20 if that edition is not kept, 11 if the buffer is shorter than the sheet.
 #[tactic(auto, using(crate::specs::Laws::fits_count, crate::proofs::Searches::found_sheet, crate::proofs::Searches::sheet_fits, crate::proofs::Searches::found_none, std::proofs::lemmas::Grind::common_steps), unfolding(crate::specs::Store::copied))]
-pub fn copy_out(store: Store, edition: usize, buffer: &mut [u8]) -> Copied
+pub fn copy_out(store: Store, edition: usize, buffer: &mut [u8]) -> Result<Length, SheetRefusal>
     ensures answer { result ≡ (copied store edition buffer.old).answer }
     ensures buffer { buffer.new ≡ (copied store edition buffer.old).buffer }
 {

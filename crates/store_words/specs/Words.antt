@@ -1,8 +1,8 @@
 -- A store in words of 64 bits.
-use Rattle.std.specs.Prelude.{ℕ, zero, suc, ◌+◌, ◌*◌, ◌-◌, ◌/◌, ◌%◌, cond, List, [], ◌∷◌, eqb, ltb, get_or}
+use Rattle.std.specs.Prelude.{ℕ, zero, suc, ◌+◌, ◌*◌, ◌-◌, ◌/◌, ◌%◌, cond, List, [], ◌∷◌, eqb, ltb, get_or, Result, Ok, Err}
 use Rattle.words.specs.Below.{list_below}
-use Rattle.sheet_store.specs.declared.AddAnswer.{AddAnswer}
-use Rattle.sheet_store.specs.declared.AddAnswer.TheVariants.{Held, Refused}
+use Rattle.sheet_store.specs.declared.Sheets.{Sheets}
+use Rattle.settings.specs.declared.SheetRefusal.{SheetRefusal}
 use Rattle.sheet_store.specs.declared.Added.{Added}
 use Rattle.sheet_store.specs.declared.Kept.{Kept}
 use Rattle.sheet_store.specs.declared.Store.{Store}
@@ -43,9 +43,9 @@ unfoldable pub words_of : Store → List ℕ
 words_of st = list_below 1040 (word_of st)
 
 -- the words after an answer
-abbrev pub next_by : AddAnswer → List ℕ → List ℕ → List ℕ
-next_by (Held n) new old = new
-next_by (Refused r) new old = old
+abbrev pub next_by : Result Sheets SheetRefusal → List ℕ → List ℕ → List ℕ
+next_by (Ok n) new old = new
+next_by (Err r) new old = old
 
 unfoldable pub next_words : List ℕ → Added → List ℕ
 next_words w a = next_by a.answer (words_of a.store) w

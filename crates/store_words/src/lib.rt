@@ -6,7 +6,8 @@ ghost use Rattle.std.specs.Prelude.{◌≡◌, ◌<◌};
 ghost use Rattle.sheet_store.specs.Store.{added, copied};
 ghost use Rattle.store_words.specs.Words.{next_words, byte_of, packed, kept_in, store_in, word_of, words_of};
 
-use sheet_store::{AddAnswer, Added, Copied, Kept, Store};
+use settings::SheetRefusal;
+use sheet_store::{Added, Kept, Length, Sheets, Store};
 use std::array;
 
 // Byte k of a word.
@@ -75,13 +76,13 @@ fn next_words(words: [u64; 1040], made: Added) -> [u64; 1040]
     ensures { result ≡ next_words words made }
 {
     match made.answer {
-        AddAnswer::Held(_) => words_of(made.store),
-        AddAnswer::Refused(_) => words,
+        Ok(_) => words_of(made.store),
+        Err(_) => words,
     }
 }
 
 // Keeps a sheet in a store that is lent as words, which stay as they are where the sheet is refused.
-pub fn keep_sheet(store: &mut [u64; 1040], sheet: &[u8]) -> AddAnswer
+pub fn keep_sheet(store: &mut [u64; 1040], sheet: &[u8]) -> Result<Sheets, SheetRefusal>
     ensures answer { result ≡ (added (store_in store.old) sheet.now).answer }
     ensures words { store.new ≡ next_words store.old (added (store_in store.old) sheet.now) }
 {
@@ -91,7 +92,11 @@ pub fn keep_sheet(store: &mut [u64; 1040], sheet: &[u8]) -> AddAnswer
 }
 
 // Copies the sheet of an edition out of a store that is lent as words.
-pub fn copy_sheet(store: &[u64; 1040], edition: usize, buffer: &mut [u8]) -> Copied
+pub fn copy_sheet(
+    store: &[u64; 1040],
+    edition: usize,
+    buffer: &mut [u8],
+) -> Result<Length, SheetRefusal>
     ensures answer { result ≡ (copied (store_in store.now) edition buffer.old).answer }
     ensures buffer { buffer.new ≡ (copied (store_in store.now) edition buffer.old).buffer }
 {

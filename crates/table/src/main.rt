@@ -4,9 +4,9 @@
 ghost use Rattle.std.specs.Prelude.{◌≤◌, length};
 ghost use Rattle.opened.specs.Lent.{Lent};
 
-use answers::{Outcome, Refusal};
+use answers::Refusal;
 use plant::{Table, TableRead};
-use plant_writer::{Length, Wrote};
+use plant_writer::Length;
 use program::given::read_plant;
 use program::said::{put, refuse};
 
@@ -16,8 +16,8 @@ fn main(rt: HostRuntime) {
     let len = files::asked_folder(&rt, &mut folder);
     let read = read_plant(&rt, &folder[..len]);
     match read.outcome {
-        Outcome::Refused(refusal) => refuse(&rt, refusal),
-        Outcome::Accepted => show_table(&rt, read.table),
+        Err(refusal) => refuse(&rt, refusal),
+        Ok(()) => show_table(&rt, read.table),
     }
 }
 
@@ -34,8 +34,8 @@ fn show_table<P: Print>(to: &P, table: Table)
         &mut text,
     );
     match wrote {
-        Wrote::Refused(refusal) => refuse(to, refusal),
-        Wrote::Text(written) => show_text(to, &text, written),
+        Err(refusal) => refuse(to, refusal),
+        Ok(written) => show_text(to, &text, written),
     }
 }
 

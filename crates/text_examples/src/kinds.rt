@@ -5,10 +5,10 @@ ghost use Rattle.std.specs.Prelude.{◌≤◌};
 
 use crate::show;
 use crate::show::{digits, end, put, tell};
-use answers::Outcome;
+use answers::Refusal;
 
 // The outcome of a text, a log's or a table's.
-fn outcome_of(text: &[u8], is_log: bool) -> Outcome {
+fn outcome_of(text: &[u8], is_log: bool) -> Result<(), Refusal> {
     if is_log {
         event_log::read_log(text, 8).outcome
     } else {

@@ -1,5 +1,5 @@
 // What the calls answer, in lines.
-use answers::Outcome;
+use answers::Refusal;
 use event_log::{Event, Num};
 use plant::Plant;
 use program::said::{put_decimal, put_hex};
@@ -28,10 +28,10 @@ fn set<P: Print>(to: &P, x: u64) {
 }
 
 // `ok`, or the refusal's number and place.
-pub fn tell<P: Print>(to: &P, outcome: Outcome) {
+pub fn tell<P: Print>(to: &P, outcome: Result<(), Refusal>) {
     match outcome {
-        Outcome::Accepted => put(to, b" ok"),
-        Outcome::Refused(refusal) => {
+        Ok(()) => put(to, b" ok"),
+        Err(refusal) => {
             number(to, b" ", usize::from(refusal.kind.number()));
             number(to, b"@", refusal.place);
         }

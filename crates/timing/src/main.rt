@@ -13,7 +13,6 @@ use sides::Monitor;
 use std::rt::Files;
 use syntax::Rule;
 use walk::Lengths;
-use witness::Witnessed;
 
 #[tactic(auto, using(opened::specs::Lent::lent))]
 fn main(rt: HostRuntime) {
@@ -142,8 +141,8 @@ fn ask(
 ) -> u64 {
     let mut buffer = [0u8; Lengths::ROOM];
     match witness::witness(plant, fair, label, next, rule, monitor, keeps, &mut buffer) {
-        Witnessed::Refused(_) => 0,
-        Witnessed::Run(lengths) => digest_states(lengths.stem, lengths.turn, &buffer),
+        Err(_) => 0,
+        Ok(lengths) => digest_states(lengths.stem, lengths.turn, &buffer),
     }
 }
 

@@ -1,40 +1,30 @@
 -- WHAT A C PROGRAM IS TOLD: each call's answer as four numbers. Number 0 is accepted; what is not named is 0.
-use Rattle.std.specs.Prelude.{ℕ, ◌-◌, Bool, cond}
+use Rattle.std.specs.Prelude.{ℕ, ◌-◌, Bool, cond, Result, Ok, Err}
 use Rattle.answers.specs.declared.Refusal.{Refusal}
-use Rattle.answers.specs.declared.Answer as answers
-use Rattle.answers.specs.declared.Answer.TheVariants as Answers
-use Rattle.answers.specs.declared.Outcome.{Outcome}
-use Rattle.answers.specs.declared.Outcome.TheVariants as Outcomes
+use Rattle.answers.specs.Results as answers
+use Rattle.answers.specs.Results.{Outcome}
 use Rattle.answers.specs.Paper.{number_of, kind_number}
 use Rattle.answers.specs.Chain as chain
 use Rattle.controller.specs.declared.Stop.{Stop}
 use Rattle.controller.specs.declared.LogAnswer.{LogAnswer}
 use Rattle.controller.specs.declared.LogAnswer.TheVariants as Logs
-use Rattle.witness.specs.declared.Witnessed.{Witnessed}
-use Rattle.witness.specs.declared.Witnessed.TheVariants as Witnesses
+use Rattle.walk.specs.declared.Lengths.{Lengths}
 use Rattle.closing.specs.declared.Closed.{Closed}
 use Rattle.closing.specs.declared.Closed.TheVariants as Closes
 use Rattle.closing.specs.Closing.{closing_number}
-use Rattle.plant_writer.specs.declared.Wrote as tables
-use Rattle.plant_writer.specs.declared.Wrote.TheVariants as Tables
-use Rattle.day_writer.specs.declared.Wrote as days
-use Rattle.day_writer.specs.declared.Wrote.TheVariants as Days
-use Rattle.fixed_machine.specs.declared.Made.{Made}
-use Rattle.fixed_machine.specs.declared.Made.TheVariants as Mades
+use Rattle.plant_writer.specs.declared.Length as tables
+use Rattle.day_writer.specs.declared.Length as days
+use Rattle.fixed_machine.specs.declared.Size.{Size}
 use Rattle.machine_events.specs.declared.Through.{Through}
-use Rattle.machine_lookup.specs.declared.Looked.{Looked}
-use Rattle.machine_lookup.specs.declared.Looked.TheVariants as Lookeds
+use Rattle.machine_lookup.specs.declared.Stand.{Stand}
 use Rattle.shown.specs.declared.Failing.{Failing}
 use Rattle.shown.specs.declared.Failing.TheVariants.{Start, Moves, Fairness, Agreement, Value}
 use Rattle.neighbour.specs.declared.Judged.{Judged}
 use Rattle.neighbour.specs.declared.Judged.TheVariants as Judges
 use Rattle.settings.specs.declared.SheetRefusal.{SheetRefusal}
-use Rattle.settings.specs.declared.Asked.{Asked}
-use Rattle.settings.specs.declared.Asked.TheVariants as Asks
-use Rattle.sheet_store.specs.declared.AddAnswer.{AddAnswer}
-use Rattle.sheet_store.specs.declared.AddAnswer.TheVariants as Adds
-use Rattle.sheet_store.specs.declared.Copied.{Copied}
-use Rattle.sheet_store.specs.declared.Copied.TheVariants as Copies
+use Rattle.settings.specs.declared.Spot.{Spot}
+use Rattle.sheet_store.specs.declared.Sheets.{Sheets}
+use Rattle.sheet_store.specs.declared.Length.{Length}
 use Rattle.told.specs.declared.Answer.{Answer}
 
 abbrev pub answer_as : ℕ → ℕ → ℕ → ℕ → Answer
@@ -54,8 +44,8 @@ stopped_by s = answer_as (kind_number s.refusal.kind) s.refusal.place s.event 0
 
 -- the verdict is the value, and the states that are left are counted
 abbrev pub shown_as : answers.Answer → Answer
-shown_as (Answers.Shown l) = answer_as 0 0 l.left (number_of l.verdict)
-shown_as (Answers.Refused r) = refused_by r
+shown_as (Ok l) = answer_as 0 0 l.left (number_of l.verdict)
+shown_as (Err r) = refused_by r
 
 -- the events are counted: all, or those before the one that is refused
 abbrev pub heard_as : LogAnswer → Answer
@@ -65,13 +55,13 @@ heard_as (Logs.Refused r) = refused_by r
 
 -- a log that may end where it stands
 abbrev pub end_as : Outcome → Answer
-end_as Outcomes.Accepted = answer_as 0 0 0 0
-end_as (Outcomes.Refused r) = refused_by r
+end_as (Ok _) = answer_as 0 0 0 0
+end_as (Err r) = refused_by r
 
 -- the value is how long the stem is, the count how long the loop
-abbrev pub run_as : Witnessed → Answer
-run_as (Witnesses.Run l) = answer_as 0 0 l.turn l.stem
-run_as (Witnesses.Refused r) = refused_by r
+abbrev pub run_as : Result Lengths Refusal → Answer
+run_as (Ok l) = answer_as 0 0 l.turn l.stem
+run_as (Err r) = refused_by r
 
 -- the value is the closing verdict's number
 abbrev pub closed_as : Closed → Answer
@@ -81,25 +71,25 @@ closed_as (Closes.Refused r) = refused_by r
 
 -- ---- texts: their bytes are counted
 
-abbrev pub wrote_as : tables.Wrote → Answer
-wrote_as (Tables.Text l) = answer_as 0 0 l.bytes 0
-wrote_as (Tables.Refused r) = refused_by r
+abbrev pub wrote_as : Result tables.Length Refusal → Answer
+wrote_as (Ok l) = answer_as 0 0 l.bytes 0
+wrote_as (Err r) = refused_by r
 
-abbrev pub sheet_wrote_as : days.Wrote → Answer
-sheet_wrote_as (Days.Text l) = answer_as 0 0 l.bytes 0
-sheet_wrote_as (Days.Refused r) = refused_by r
+abbrev pub sheet_wrote_as : Result days.Length Refusal → Answer
+sheet_wrote_as (Ok l) = answer_as 0 0 l.bytes 0
+sheet_wrote_as (Err r) = refused_by r
 
 -- ---- fixed machines
 
 -- the rows are counted, and the value is how many bytes a row has
-abbrev pub made_as : Made → Answer
-made_as (Mades.Rows s) = answer_as 0 0 s.rows s.bytes
-made_as (Mades.Refused r) = refused_by r
+abbrev pub made_as : Result Size Refusal → Answer
+made_as (Ok s) = answer_as 0 0 s.rows s.bytes
+made_as (Err r) = refused_by r
 
 -- the verdict is the value, the states that are left are counted, and the place is the next row
-abbrev pub looked_as : Looked → Answer
-looked_as (Lookeds.Row s) = answer_as 0 s.row s.left s.verdict
-looked_as (Lookeds.Refused r) = refused_by r
+abbrev pub looked_as : Result Stand Refusal → Answer
+looked_as (Ok s) = answer_as 0 s.row s.left s.verdict
+looked_as (Err r) = refused_by r
 
 -- the place is the row behind the events that were looked up, also where the next one is refused, and these are counted
 abbrev pub through_as : Through → Answer
@@ -134,16 +124,16 @@ abbrev pub refused_sheet : SheetRefusal → Answer
 refused_sheet r = answer_as (kind_number r.kind) r.place 0 r.sheet
 
 -- where a value begins, how many bytes it has, and in which sheet it stands
-abbrev pub asked_as : Asked → Answer
-asked_as (Asks.At p) = answer_as 0 p.from (p.upto - p.from) p.sheet
-asked_as (Asks.Refused r) = refused_sheet r
+abbrev pub asked_as : Result Spot SheetRefusal → Answer
+asked_as (Ok p) = answer_as 0 p.from (p.upto - p.from) p.sheet
+asked_as (Err r) = refused_sheet r
 
 -- how many sheets are kept
-abbrev pub held_as : AddAnswer → Answer
-held_as (Adds.Held n) = answer_as 0 0 n.count 0
-held_as (Adds.Refused r) = refused_sheet r
+abbrev pub held_as : Result Sheets SheetRefusal → Answer
+held_as (Ok n) = answer_as 0 0 n.count 0
+held_as (Err r) = refused_sheet r
 
 -- how many bytes were copied
-abbrev pub copied_as : Copied → Answer
-copied_as (Copies.Sheet n) = answer_as 0 0 n.bytes 0
-copied_as (Copies.Refused r) = refused_sheet r
+abbrev pub copied_as : Result Length SheetRefusal → Answer
+copied_as (Ok n) = answer_as 0 0 n.bytes 0
+copied_as (Err r) = refused_sheet r

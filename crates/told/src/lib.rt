@@ -10,10 +10,10 @@ ghost use Rattle.walk.specs.declared.Lengths.{Lengths};
 ghost use Rattle.std.specs.Prelude.{◌≡◌};
 ghost use Rattle.told.specs.Told.{refused_by, stopped_by, shown_as, heard_as, end_as, run_as, closed_as};
 
-use answers::{Answer as Shown, Outcome, Refusal};
+use answers::{Lamp, Refusal};
 use closing::Closed;
 use controller::{LogAnswer, Stop};
-use witness::Witnessed;
+use witness::Lengths;
 
 // Number 0: accepted. Else the refusal's, with its place. The header has the same struct.
 #[repr(C)]
@@ -51,13 +51,13 @@ impl From<Stop> for Answer {
 }
 
 // The verdict is the value, and the states that are left are counted.
-impl From<Shown> for Answer {
+impl From<Result<Lamp, Refusal>> for Answer {
     ghost from_gives = { λ s a. a ≡ shown_as s };
 
-    fn from(answer: Shown) -> Answer {
+    fn from(answer: Result<Lamp, Refusal>) -> Answer {
         match answer {
-            Shown::Refused(refusal) => refusal.into(),
-            Shown::Shown(lamp) => Answer {
+            Err(refusal) => refusal.into(),
+            Ok(lamp) => Answer {
                 count: lamp.left as u64,
                 value: u64::from(lamp.verdict.number()),
                 ..Answer::default()
@@ -83,25 +83,25 @@ impl From<LogAnswer> for Answer {
 }
 
 // Whether a log may end where it stands.
-impl From<Outcome> for Answer {
+impl From<Result<(), Refusal>> for Answer {
     ghost from_gives = { λ o a. a ≡ end_as o };
 
-    fn from(outcome: Outcome) -> Answer {
+    fn from(outcome: Result<(), Refusal>) -> Answer {
         match outcome {
-            Outcome::Refused(refusal) => refusal.into(),
-            Outcome::Accepted => Answer::default(),
+            Err(refusal) => refusal.into(),
+            Ok(()) => Answer::default(),
         }
     }
 }
 
 // The value is how long the stem is, the count how long the loop.
-impl From<Witnessed> for Answer {
+impl From<Result<Lengths, Refusal>> for Answer {
     ghost from_gives = { λ w a. a ≡ run_as w };
 
-    fn from(witnessed: Witnessed) -> Answer {
+    fn from(witnessed: Result<Lengths, Refusal>) -> Answer {
         match witnessed {
-            Witnessed::Refused(refusal) => refusal.into(),
-            Witnessed::Run(lengths) => Answer {
+            Err(refusal) => refusal.into(),
+            Ok(lengths) => Answer {
                 count: lengths.turn as u64,
                 value: lengths.stem as u64,
                 ..Answer::default()

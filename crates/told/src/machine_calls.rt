@@ -3,18 +3,19 @@ ghost use Rattle.std.specs.Prelude.{◌≡◌};
 ghost use Rattle.told.specs.Told.{made_as, looked_as, through_as};
 
 use crate::Answer;
-use fixed_machine::Made;
+use answers::Refusal;
+use fixed_machine::Size;
 use machine_events::Through;
-use machine_lookup::Looked;
+use machine_lookup::Stand;
 
 // The rows are counted, and the value is how many bytes a row has.
-impl From<Made> for Answer {
+impl From<Result<Size, Refusal>> for Answer {
     ghost from_gives = { λ m a. a ≡ made_as m };
 
-    fn from(made: Made) -> Answer {
+    fn from(made: Result<Size, Refusal>) -> Answer {
         match made {
-            Made::Refused(refusal) => refusal.into(),
-            Made::Rows(size) => Answer {
+            Err(refusal) => refusal.into(),
+            Ok(size) => Answer {
                 count: size.rows as u64,
                 value: size.bytes as u64,
                 ..Answer::default()
@@ -24,13 +25,13 @@ impl From<Made> for Answer {
 }
 
 // The place is the next row; the verdict is the value, and the states that are left are counted.
-impl From<Looked> for Answer {
+impl From<Result<Stand, Refusal>> for Answer {
     ghost from_gives = { λ l a. a ≡ looked_as l };
 
-    fn from(looked: Looked) -> Answer {
+    fn from(looked: Result<Stand, Refusal>) -> Answer {
         match looked {
-            Looked::Refused(refusal) => refusal.into(),
-            Looked::Row(stand) => Answer {
+            Err(refusal) => refusal.into(),
+            Ok(stand) => Answer {
                 number: 0,
                 place: stand.row as u64,
                 count: u64::from(stand.left),

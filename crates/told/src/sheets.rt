@@ -3,8 +3,8 @@ ghost use Rattle.std.specs.Prelude.{◌≡◌};
 ghost use Rattle.told.specs.Told.{refused_sheet, asked_as, held_as, copied_as};
 
 use crate::Answer;
-use settings::{Asked, SheetRefusal};
-use sheet_store::{AddAnswer, Copied};
+use settings::{SheetRefusal, Spot};
+use sheet_store::{Length, Sheets};
 
 // The sheet that a refusal is about is its value: 1 the local one, 2 the shared one, 0 none.
 impl From<SheetRefusal> for Answer {
@@ -21,13 +21,13 @@ impl From<SheetRefusal> for Answer {
 }
 
 // Where the value begins is the place, how many bytes it has the count, and the sheet in which it stands the value.
-impl From<Asked> for Answer {
+impl From<Result<Spot, SheetRefusal>> for Answer {
     ghost from_gives = { λ r a. a ≡ asked_as r };
 
-    fn from(answer: Asked) -> Answer {
+    fn from(answer: Result<Spot, SheetRefusal>) -> Answer {
         match answer {
-            Asked::Refused(refusal) => refusal.into(),
-            Asked::At(spot) => Answer {
+            Err(refusal) => refusal.into(),
+            Ok(spot) => Answer {
                 number: 0,
                 place: spot.from as u64,
                 count: spot.upto.saturating_sub(spot.from) as u64,
@@ -38,13 +38,13 @@ impl From<Asked> for Answer {
 }
 
 // The sheets that are kept are counted.
-impl From<AddAnswer> for Answer {
+impl From<Result<Sheets, SheetRefusal>> for Answer {
     ghost from_gives = { λ r a. a ≡ held_as r };
 
-    fn from(answer: AddAnswer) -> Answer {
+    fn from(answer: Result<Sheets, SheetRefusal>) -> Answer {
         match answer {
-            AddAnswer::Refused(refusal) => refusal.into(),
-            AddAnswer::Held(sheets) => Answer {
+            Err(refusal) => refusal.into(),
+            Ok(sheets) => Answer {
                 count: sheets.count as u64,
                 ..Answer::default()
             },
@@ -53,13 +53,13 @@ impl From<AddAnswer> for Answer {
 }
 
 // The bytes that were copied are counted.
-impl From<Copied> for Answer {
+impl From<Result<Length, SheetRefusal>> for Answer {
     ghost from_gives = { λ r a. a ≡ copied_as r };
 
-    fn from(answer: Copied) -> Answer {
+    fn from(answer: Result<Length, SheetRefusal>) -> Answer {
         match answer {
-            Copied::Refused(refusal) => refusal.into(),
-            Copied::Sheet(length) => Answer {
+            Err(refusal) => refusal.into(),
+            Ok(length) => Answer {
                 count: length.bytes as u64,
                 ..Answer::default()
             },

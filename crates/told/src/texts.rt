@@ -3,16 +3,17 @@ ghost use Rattle.std.specs.Prelude.{◌≡◌};
 ghost use Rattle.told.specs.Told.{wrote_as, sheet_wrote_as};
 
 use crate::Answer;
-use day_writer::Wrote as SheetWrote;
-use plant_writer::Wrote as TableWrote;
+use answers::Refusal;
+use day_writer::Length as SheetLength;
+use plant_writer::Length as TableLength;
 
-impl From<TableWrote> for Answer {
+impl From<Result<TableLength, Refusal>> for Answer {
     ghost from_gives = { λ w a. a ≡ wrote_as w };
 
-    fn from(answer: TableWrote) -> Answer {
+    fn from(answer: Result<TableLength, Refusal>) -> Answer {
         match answer {
-            TableWrote::Refused(refusal) => refusal.into(),
-            TableWrote::Text(length) => Answer {
+            Err(refusal) => refusal.into(),
+            Ok(length) => Answer {
                 count: length.bytes as u64,
                 ..Answer::default()
             },
@@ -20,13 +21,13 @@ impl From<TableWrote> for Answer {
     }
 }
 
-impl From<SheetWrote> for Answer {
+impl From<Result<SheetLength, Refusal>> for Answer {
     ghost from_gives = { λ w a. a ≡ sheet_wrote_as w };
 
-    fn from(answer: SheetWrote) -> Answer {
+    fn from(answer: Result<SheetLength, Refusal>) -> Answer {
         match answer {
-            SheetWrote::Refused(refusal) => refusal.into(),
-            SheetWrote::Text(length) => Answer {
+            Err(refusal) => refusal.into(),
+            Ok(length) => Answer {
                 count: length.bytes as u64,
                 ..Answer::default()
             },

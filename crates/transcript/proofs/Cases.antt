@@ -1,4 +1,5 @@
 -- An output by whether a check accepted, or refused; and the lines of a course.
+use Rattle.std.specs.Prelude.{Ok, Err}
 use Prim.Native.Nat.{ℕ, ◌*◌, ◌≤◌}
 use native.Mathlib.Nat.{le_trans}
 use native.Mathlib.Omega.{arith}
@@ -8,9 +9,7 @@ use mathlib.Core.List.{List, ◌++◌, append-nil}
 use lib.ListN.{length, get_or, drop, length-map}
 use Rattle.answers.specs.declared.Lamp.{Lamp}
 use Rattle.answers.specs.declared.Refusal.{Refusal}
-use Rattle.answers.specs.declared.Answer.TheVariants as Answers
-use Rattle.answers.specs.declared.Outcome.{Outcome}
-use Rattle.answers.specs.declared.Outcome.TheVariants.{Accepted, Refused}
+use Rattle.answers.specs.Results.{Outcome}
 use Rattle.report.specs.Text.{refused_text, start_text}
 use Rattle.report.specs.Line.{Put}
 use Rattle.report.proofs.Puts.{puts}
@@ -38,22 +37,22 @@ use Rattle.transcript.specs.Said.{file_of, bytes_of, log_outcome, or_refused, st
 
 module _ {b now : List ℕ} {end : ℕ} where
   -- by the outcome of a call
-  pub refused_said : {R : Type 0} (out : R → Outcome) (F : R → List ℕ) {r x : R} {q : Refusal} → r ≡ x → out r ≡ Refused q → Put b 0 (refused_text q) now end → Put b 0 (or_refused (out x) (F x)) now end
+  pub refused_said : {R : Type 0} (out : R → Outcome) (F : R → List ℕ) {r x : R} {q : Refusal} → r ≡ x → out r ≡ Err q → Put b 0 (refused_text q) now end → Put b 0 (or_refused (out x) (F x)) now end
   refused_said {R} out F e f h = subst (λ (y : R). Put b 0 (or_refused (out y) (F y)) now end) e (rw f h)
 
-  pub accepted_said : {R : Type 0} (out : R → Outcome) (F : R → List ℕ) {r x : R} → r ≡ x → out r ≡ Accepted → Put b 0 (F r) now end → Put b 0 (or_refused (out x) (F x)) now end
+  pub accepted_said : {R : Type 0} (out : R → Outcome) (F : R → List ℕ) {r x : R} → r ≡ x → out r ≡ Ok tt → Put b 0 (F r) now end → Put b 0 (or_refused (out x) (F x)) now end
   accepted_said {R} out F e f h = subst (λ (y : R). Put b 0 (or_refused (out y) (F y)) now end) e (rw f h)
 
   -- a log whose form was accepted is there
-  pub log_there : (props : ℕ) (ok : Bool) (text : List ℕ) {o : Outcome} (F : List ℕ → List ℕ) → o ≡ log_outcome props (file_of ok text) → o ≡ Accepted → Put b 0 (F text) now end → Put b 0 (F (bytes_of (file_of ok text))) now end
+  pub log_there : (props : ℕ) (ok : Bool) (text : List ℕ) {o : Outcome} (F : List ℕ → List ℕ) → o ≡ log_outcome props (file_of ok text) → o ≡ Ok tt → Put b 0 (F text) now end → Put b 0 (F (bytes_of (file_of ok text))) now end
   log_there props true text F e f h = h
   log_there props false text F e f h = absurd (let z : ◌≡◌ {A = ℕ} 0 1 = cc in omega arith)
 
 -- behind the lines: nothing, or the refusal of the event behind them
-pub went_all : {b lines now : List ℕ} {at end : ℕ} {o : Outcome} (offset : ℕ) → o ≡ Accepted → Put b at lines now end → Put b at (lines ++ stop_text o offset) now end
+pub went_all : {b lines now : List ℕ} {at end : ℕ} {o : Outcome} (offset : ℕ) → o ≡ Ok tt → Put b at lines now end → Put b at (lines ++ stop_text o offset) now end
 went_all offset e p = rw (e, append-nil) p
 
-pub went_stopped : {b lines mid now : List ℕ} {at end last : ℕ} {o : Outcome} {r s : Refusal} (offset : ℕ) → o ≡ Refused r → s ≡ placed_at r offset → Put b at lines mid end → Put mid end (refused_text s) now last
+pub went_stopped : {b lines mid now : List ℕ} {at end last : ℕ} {o : Outcome} {r s : Refusal} (offset : ℕ) → o ≡ Err r → s ≡ placed_at r offset → Put b at lines mid end → Put mid end (refused_text s) now last
     → Put b at (lines ++ stop_text o offset) now last
 went_stopped offset e f p q = rw (e, ← f) (puts p q)
 
@@ -100,15 +99,15 @@ module _ {c : Course} {n : ℕ} (h : Counted n c) {verdicts₀ lefts₀ numbers�
 
 -- what an opened monitor shows, and what follows
 module _ {b now : List ℕ} {end : ℕ} (bytes : ℕ) (F : Monitor → Course) {w x : Watched} (e : w ≡ x) where
-  pub not_opened : {r : Refusal} → w.answer ≡ Answers.Refused r → Put b 0 (refused_text r) now end → Put b 0 (opened_text bytes x.answer (F x.monitor)) now end
+  pub not_opened : {r : Refusal} → w.answer ≡ Err r → Put b 0 (refused_text r) now end → Put b 0 (opened_text bytes x.answer (F x.monitor)) now end
   not_opened f h = subst (λ (y : Watched). Put b 0 (opened_text bytes y.answer (F y.monitor)) now end) e (rw f h)
 
-  pub opened_said : {l : Lamp} {mid : List ℕ} {at : ℕ} → w.answer ≡ Answers.Shown l → Put b 0 (start_text l) mid at → Put mid at (behind_text bytes (F w.monitor)) now end
+  pub opened_said : {l : Lamp} {mid : List ℕ} {at : ℕ} → w.answer ≡ Ok l → Put b 0 (start_text l) mid at → Put mid at (behind_text bytes (F w.monitor)) now end
       → Put b 0 (opened_text bytes x.answer (F x.monitor)) now end
   opened_said f p q = subst (λ (y : Watched). Put b 0 (opened_text bytes y.answer (F y.monitor)) now end) e (rw f (puts p q))
 
 -- and that a log may be followed from it
-pub fits_opened : (p : Plant) (fair label next : List ℕ) (rule : Rule) → length rule.nodes ≡ 32 → (prepared_of p fair label next rule).outcome ≡ Accepted
+pub fits_opened : (p : Plant) (fair label next : List ℕ) (rule : Rule) → length rule.nodes ≡ 32 → (prepared_of p fair label next rule).outcome ≡ Ok tt
     → {live : Pairs} → live ≡ (prepared_of p fair label next rule).live → {w : Watched} → w ≡ open_call p fair label next rule live → Fitting p fair label next rule live w.monitor
 fits_opened p fair label next rule full ok {live} l e =
     subst (λ (x : Watched). Fitting p fair label next rule live x.monitor) (sym e)

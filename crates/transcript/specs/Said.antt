@@ -1,10 +1,8 @@
 -- THE PROGRAM'S WHOLE OUTPUT, as a text of the three texts that it is given, in the order of 01, Log and program. It stops at the first refusal.
-use Rattle.std.specs.Prelude.{ℕ, Bool, true, false, List, [], ◌++◌, get_or, take}
+use Rattle.std.specs.Prelude.{ℕ, Bool, true, false, List, [], ◌++◌, get_or, take, Ok, Err}
 use Rattle.answers.specs.declared.Kind.TheVariants.{File as FileKind}
-use Rattle.answers.specs.declared.Answer.{Answer}
-use Rattle.answers.specs.declared.Answer.TheVariants as Answers
-use Rattle.answers.specs.declared.Outcome.{Outcome}
-use Rattle.answers.specs.declared.Outcome.TheVariants.{Accepted, Refused}
+use Rattle.answers.specs.Results.{Answer}
+use Rattle.answers.specs.Results.{Outcome}
 use Rattle.answers.specs.Paper.{refused_at}
 use Rattle.plant.specs.declared.Plant.{Plant}
 use Rattle.plant.specs.declared.Table.{Table}
@@ -50,17 +48,17 @@ rule_given p fair label next missing = no_rule FileKind 0
 -- a log's lines are as wide as the table's propositions ask for
 abbrev pub log_outcome : ℕ → File → Outcome
 log_outcome props (bytes text) = (log_read (width_of props) text).outcome
-log_outcome props missing = Refused (refused_at FileKind 0)
+log_outcome props missing = Err (refused_at FileKind 0)
 
 -- a refusal is the last line
 abbrev pub or_refused : Outcome → List ℕ → List ℕ
-or_refused Accepted text = text
-or_refused (Refused r) text = refused_text r
+or_refused (Ok _) text = text
+or_refused (Err r) text = refused_text r
 
 -- behind the last line: nothing, or the refusal of an event at its line's offset
 abbrev pub stop_text : Outcome → ℕ → List ℕ
-stop_text Accepted offset = []
-stop_text (Refused r) offset = refused_text (placed_at r offset)
+stop_text (Ok _) offset = []
+stop_text (Err r) offset = refused_text (placed_at r offset)
 
 -- the lamps of the log's lines, each of so many bytes, and then the event behind those taken
 abbrev pub behind_text : ℕ → Course → List ℕ
@@ -68,8 +66,8 @@ behind_text wide c = lines_text (λ k. get_or c.numbers k 0) c.lamps ++ stop_tex
 
 -- and before them the lamp at the start
 abbrev pub opened_text : ℕ → Answer → Course → List ℕ
-opened_text wide (Answers.Shown l) c = start_text l ++ behind_text wide c
-opened_text wide (Answers.Refused r) c = refused_text r
+opened_text wide (Ok l) c = start_text l ++ behind_text wide c
+opened_text wide (Err r) c = refused_text r
 
 module _ (p : Plant) (fair label next : List ℕ) where
   -- from the start to the log's end: the calls, one after the other

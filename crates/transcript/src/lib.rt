@@ -10,7 +10,6 @@ ghost use Rattle.report.specs.Line.{Put};
 ghost use Rattle.opened.specs.Lent.{Lent};
 ghost use Rattle.transcript.specs.Said.{file_of, log_text, rule_text, table_text, output_of};
 
-use answers::Outcome;
 use lamp_lines::put_refused;
 use plant::{Plant, Table};
 pub use play::at_line;
@@ -36,8 +35,8 @@ pub fn write_output(
     let outcome = read.outcome;
     let table = read.table;
     match outcome {
-        Outcome::Refused(refusal) => put_refused(out, 0, refusal),
-        Outcome::Accepted => with_table(table, ruled, rule, logged, log, out),
+        Err(refusal) => put_refused(out, 0, refusal),
+        Ok(()) => with_table(table, ruled, rule, logged, log, out),
     }
 }
 
@@ -91,8 +90,8 @@ fn with_parts(
     let outcome = read.outcome;
     let rule = read.rule;
     match outcome {
-        Outcome::Refused(refusal) => put_refused(out, 0, refusal),
-        Outcome::Accepted => with_rule(plant, fair, label, next, rule, logged, log, out),
+        Err(refusal) => put_refused(out, 0, refusal),
+        Ok(()) => with_rule(plant, fair, label, next, rule, logged, log, out),
     }
 }
 
@@ -112,7 +111,7 @@ fn with_rule(
 {
     let outcome = texts::check_log(ok, log, plant.props);
     match outcome {
-        Outcome::Refused(refusal) => put_refused(out, 0, refusal),
-        Outcome::Accepted => play::play(plant, fair, label, next, rule, log, out),
+        Err(refusal) => put_refused(out, 0, refusal),
+        Ok(()) => play::play(plant, fair, label, next, rule, log, out),
     }
 }

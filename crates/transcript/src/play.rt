@@ -1,6 +1,5 @@
 // From the start to the end of a log: the calls, one after the other, and the log by the one loop over its lines.
-ghost use Rattle.std.specs.Prelude.{◌≡◌, ◌++◌, ◌+◌, ◌*◌, ◌≤◌, length};
-ghost use Rattle.answers.specs.declared.Outcome.TheVariants.{Accepted};
+ghost use Rattle.std.specs.Prelude.{◌≡◌, ◌++◌, ◌+◌, ◌*◌, ◌≤◌, length, Ok};
 ghost use Rattle.text.specs.Number.{width_of};
 ghost use Rattle.event_log.specs.Read.{bytes_in};
 ghost use Rattle.live.specs.Prepare.{prepared_of};
@@ -11,7 +10,7 @@ ghost use Rattle.transcript.specs.Place.{placed_at, at_line};
 ghost use Rattle.lamp_lines.specs.Lines.{byte_lines};
 ghost use Rattle.transcript.specs.Said.{stop_text, behind_text, opened_text, played_text};
 
-use answers::{Answer, Kind, Outcome, Refusal};
+use answers::{Answer, Kind, Refusal};
 use lamp_lines::{put_lamps, put_refused, put_start};
 use pairs::Pairs;
 use plant::Plant;
@@ -35,8 +34,8 @@ pub fn play(
     let outcome = prepared.outcome;
     let live = prepared.live;
     match outcome {
-        Outcome::Refused(refusal) => put_refused(out, 0, refusal),
-        Outcome::Accepted => from_start(plant, fair, label, next, rule, live, log, out),
+        Err(refusal) => put_refused(out, 0, refusal),
+        Ok(()) => from_start(plant, fair, label, next, rule, live, log, out),
     }
 }
 
@@ -51,7 +50,7 @@ fn from_start(
     log: &[u8],
     out: &mut [u8],
 ) -> usize
-    requires { ((prepared_of plant fair.now label.now next.now rule).outcome ≡ Accepted)
+    requires { ((prepared_of plant fair.now label.now next.now rule).outcome ≡ Ok tt)
         × (live ≡ (prepared_of plant fair.now label.now next.now rule).live) × (length log.now ≤ 65520) × (229460 ≤ length out.old) }
     ensures { Put out.old 0 (opened_text (bytes_in (width_of plant.props) log.now)
         (open_call plant fair.now label.now next.now rule live).answer
@@ -62,8 +61,8 @@ fn from_start(
     let answer = opened.answer;
     let monitor = opened.monitor;
     match answer {
-        Answer::Refused(refusal) => put_refused(out, 0, refusal),
-        Answer::Shown(lamp) => {
+        Err(refusal) => put_refused(out, 0, refusal),
+        Ok(lamp) => {
             let at = put_start(out, lamp);
             behind_start(plant, fair, label, next, rule, live, monitor, log, at, out)
         }
@@ -113,7 +112,7 @@ fn behind_start(
 fn put_went(
     out: &mut [u8],
     at: usize,
-    outcome: Outcome,
+    outcome: Result<(), Refusal>,
     done: usize,
     verdicts: &[u8],
     lefts: &[u8],
@@ -125,18 +124,18 @@ fn put_went(
 {
     let end = put_lamps(out, at, done, verdicts, lefts, numbers);
     match outcome {
-        Outcome::Accepted => end,
-        Outcome::Refused(refusal) => put_refused(out, end, placed(refusal, offset)),
+        Ok(()) => end,
+        Err(refusal) => put_refused(out, end, placed(refusal, offset)),
     }
 }
 
 // The outcome of a course, where the event behind those taken stands at `offset`.
-pub fn at_line(outcome: Outcome, offset: usize) -> Outcome
+pub fn at_line(outcome: Result<(), Refusal>, offset: usize) -> Result<(), Refusal>
     ensures { result ≡ at_line outcome offset }
 {
     match outcome {
-        Outcome::Accepted => Outcome::Accepted,
-        Outcome::Refused(refusal) => Outcome::Refused(placed(refusal, offset)),
+        Ok(()) => Ok(()),
+        Err(refusal) => Err(placed(refusal, offset)),
     }
 }
 

@@ -5,7 +5,7 @@ ghost use Rattle.transcript.specs.End.{end_of};
 ghost use Rattle.opened.specs.Lent.{Lent};
 ghost use Rattle.transcript.specs.Said.{file_of, plant_read, rule_given, log_outcome};
 
-use answers::{Kind, Outcome, Refusal};
+use answers::{Kind, Refusal};
 use plant::{Plant, Table, TableRead};
 use rule_text::RuleRead;
 
@@ -18,7 +18,7 @@ pub fn read_plant(ok: bool, text: &[u8]) -> TableRead
         return plant::read_table(text);
     }
     TableRead {
-        outcome: Outcome::Refused(Refusal::at(Kind::File, 0)),
+        outcome: Err(Refusal::at(Kind::File, 0)),
         table: Table::EMPTY,
     }
 }
@@ -57,12 +57,12 @@ pub fn read_rule(
 }
 
 // The form alone: events are judged one by one, behind the lamps before them.
-pub fn check_log(ok: bool, text: &[u8], props: usize) -> Outcome
+pub fn check_log(ok: bool, text: &[u8], props: usize) -> Result<(), Refusal>
     ensures { result ≡ log_outcome props (file_of ok text.now) }
 {
     if ok {
         let read = event_log::read_log(text, props);
         return read.outcome;
     }
-    Outcome::Refused(Refusal::at(Kind::File, 0))
+    Err(Refusal::at(Kind::File, 0))
 }

@@ -1,7 +1,7 @@
 -- More of specs/Watching: behind any events, accepted or refused, the calls give the monitor and the lamp of the model behind those accepted (`after_any`, `after_model`).
 use Prim.Native.Nat.{ℕ, ◌+◌}
 use Rattle.std.proofs.Common.{arith, subst, ◌∙◌}
-use Rattle.std.specs.Prelude.{◌≡◌, ◌↔◌, Bool}
+use Rattle.std.specs.Prelude.{◌≡◌, ◌↔◌, Bool, Ok, Err}
 use Rattle.std.proofs.Math.Path.{refl, sym, ap}
 use Rattle.std.proofs.Math.Bool.{true, false}
 use mathlib.Core.List.{List, [], ◌∷◌, foldl, foldl-append}
@@ -12,8 +12,7 @@ use Rattle.pairs.specs.declared.Pairs.{Pairs}
 use Rattle.model.specs.LiveSet.{live_set}
 use Rattle.model.specs.Sets.{PairSet}
 use Rattle.model.specs.Monitor as model
-use Rattle.answers.specs.declared.Outcome.{Outcome}
-use Rattle.answers.specs.declared.Outcome.TheVariants.{Accepted, Refused}
+use Rattle.answers.specs.Results.{Outcome}
 use Rattle.plant.specs.declared.Plant.{Plant}
 use Rattle.syntax.specs.declared.Rule.{Rule}
 use Rattle.event_log.specs.declared.Event.{Event}
@@ -68,7 +67,7 @@ module _ (p : Plant) (fair label next : List ℕ) (rule : Rule) where
   brought_seen = of_watching.brought_seen p fair label next rule
 
   module _ (given : Input p fair label next rule) where
-    abbrev event_says : (e : Event) (seen : Bool) (expected : ℕ) → (event_outcome e p.props seen expected ≡ Accepted) ↔ Taken seen expected e
+    abbrev event_says : (e : Event) (seen : Bool) (expected : ℕ) → (event_outcome e p.props seen expected ≡ Ok tt) ↔ Taken seen expected e
     event_says = of_watching.event_says p fair label next rule given
 
     -- ---- for any live set of the table and the rule
@@ -147,14 +146,14 @@ module _ (p : Plant) (fair label next : List ℕ) (rule : Rule) where
             by : ((k : ℕ) (x : model.Monitor) → Held (monitor_of k x) → now.monitor ≡ monitor_of k x → End now k x es (taken_ones x.seen k es)) → (o : Outcome) → event_outcome e p.props m.seen n ≡ o
                 → now ≡ watched o (monitor_of n m) (number_of e.num n + 1) (next_of m n e)
                 → End now n m es (taken_by o e (taken_ones true (number_of e.num n + 1) es) (taken_ones m.seen n es))
-            by rest Accepted g step =
+            by rest (Ok _) g step =
                 let k = number_of e.num n + 1 in
                 let taken = taken_ones true k es in
                 subst (λ (s : Bool). (foldl (λ w e. step_call p fair label next rule live w.monitor e) now es).monitor ≡ monitor_of (expected_from k (taken_ones s k es)) (foldl move (next_of m n e) (filled_from (next_of m n e).seen k (taken_ones s k es))))
                 (brought_seen (live_set T f) m n e)
                 (rest k (next_of m n e) (next_held n m held e ((event_says e m.seen n).0 g)) (ap (λ (w : Watched). w.monitor) step))
                 ∙ ap (monitor_of (expected_from k taken)) (goes_on n m e taken)
-            by rest (Refused r) g step = rest n m held (ap (λ (w : Watched). w.monitor) step)
+            by rest (Err r) g step = rest n m held (ap (λ (w : Watched). w.monitor) step)
 
     -- and after accepted ones the calls show its lamp
     pub after_model : (es : List Event) → AllTaken es → after es ≡ shows (expected_from 0 es) (model.run_of T f (live_set T f) (filled es))

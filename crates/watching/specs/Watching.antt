@@ -2,7 +2,7 @@
 -- if the event is legal and its number in turn, and else a refusal by 10 or 16 that leaves the monitor. Any events may come; what is then behind them: proofs/Watching.
 use Prim.Native.Nat.{ℕ, ◌+◌, ◌^◌, ◌≤◌}
 use Rattle.std.proofs.Common.{arith, subst, ◌∙◌}
-use Rattle.std.specs.Prelude.{◌≡◌, ◌↔◌, Bool, ◌&&◌, length, replicate}
+use Rattle.std.specs.Prelude.{◌≡◌, ◌↔◌, Bool, ◌&&◌, length, replicate, Ok, Err}
 use Rattle.std.proofs.Math.Path.{refl, sym, ap}
 use Rattle.std.proofs.Math.Bool.{true, false}
 use mathlib.Core.List.{List, [], ◌∷◌, foldl, foldl-append}
@@ -20,8 +20,7 @@ use Rattle.model.specs.Checks.{pairs_ok, pairs_says, legal_says}
 use Rattle.model.proofs.Rule.{opening_sets, step_sets}
 use Rattle.model.specs.Monitor as model
 use Rattle.answers.specs.declared.Kind.TheVariants.{IllegalEvent, Number as NumberKind}
-use Rattle.answers.specs.declared.Outcome.{Outcome}
-use Rattle.answers.specs.declared.Outcome.TheVariants.{Accepted, Refused}
+use Rattle.answers.specs.Results.{Outcome}
 use Rattle.answers.specs.Chain.{and_then, unless, chain_accepts, unless_accepts}
 use Rattle.plant.specs.declared.Plant.{Plant}
 use Rattle.plant.specs.Table.{plant_of}
@@ -87,8 +86,8 @@ module _ (p : Plant) (fair label next : List ℕ) (rule : Rule) where
 
   -- the events that are
   abbrev pub taken_by : Outcome → Event → List Event → List Event → List Event
-  taken_by Accepted e taken other = e ∷ taken
-  taken_by (Refused r) e taken other = other
+  taken_by (Ok _) e taken other = e ∷ taken
+  taken_by (Err r) e taken other = other
 
   unfoldable pub taken_ones : Bool → ℕ → List Event → List Event
   taken_ones seen expected [] = []
@@ -118,7 +117,7 @@ module _ (p : Plant) (fair label next : List ℕ) (rule : Rule) where
     full = rw given.is (full_value f given.small)
 
     -- what the check of an event says
-    pub event_says : (e : Event) (seen : Bool) (expected : ℕ) → (event_outcome e p.props seen expected ≡ Accepted) ↔ Taken seen expected e
+    pub event_says : (e : Event) (seen : Bool) (expected : ℕ) → (event_outcome e p.props seen expected ≡ Ok tt) ↔ Taken seen expected e
     event_says e seen expected =
         let turn = in_turn_says seen expected (number_of e.num expected) in
         let legal = legal_says T (seen_of e) in (
@@ -166,11 +165,11 @@ module _ (p : Plant) (fair label next : List ℕ) (rule : Rule) where
         where
           go : (o : Outcome) → event_outcome e p.props m.seen m.expected ≡ o
               → Held (watched o m (number_of e.num m.expected + 1) (brought known.words (model_of m) m.expected e)).monitor
-          go Accepted g = record {
+          go (Ok _) g = record {
             sets = brought_sets (model_of m) held.sets (brings m.seen m.expected e);
             low = omega (arith, ((event_says e m.seen m.expected).0 g).1.number);
           }
-          go (Refused r) g = held
+          go (Err r) g = held
 
       -- as is the one opened
       pub opens : open_call p fair label next rule known ≡ shows 0 (model.opening T f known.words)

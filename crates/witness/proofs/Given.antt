@@ -1,4 +1,5 @@
 -- What the checks give the code behind them, and what the answers are.
+use Rattle.std.specs.Prelude.{Result, Ok, Err}
 use Prim.Native.Nat.{ℕ, ◌≤◌, ◌<◌}
 use mathlib.Core.Path.{◌≡◌, refl, sym, ap, subst, ◌∙◌}
 use mathlib.Core.Bool.{Bool, true, false, So, not}
@@ -19,10 +20,8 @@ use Rattle.sweeps.specs.Rounds.{lasting_of}
 use Rattle.answers.specs.declared.Kind.TheVariants.{Value, Room, NoPair}
 use Rattle.answers.specs.declared.Lamp.{Lamp}
 use Rattle.answers.specs.declared.Refusal.{Refusal}
-use Rattle.answers.specs.declared.Answer.{Answer}
-use Rattle.answers.specs.declared.Answer.TheVariants as Looks
-use Rattle.answers.specs.declared.Outcome.{Outcome}
-use Rattle.answers.specs.declared.Outcome.TheVariants.{Accepted, Refused}
+use Rattle.answers.specs.Results.{Answer}
+use Rattle.answers.specs.Results.{Outcome}
 use Rattle.answers.specs.Paper.{refused_at}
 use Rattle.answers.specs.Chain.{unless, first_refuses, first_passes, test_passes, test_fails, chain_accepts, unless_accepts}
 use Rattle.plant.specs.declared.Plant.{Plant}
@@ -42,20 +41,18 @@ use Rattle.sides.specs.Held.{model_of}
 use Rattle.monitor.specs.Calls.{lit, checked_of, monitor_fits, look_call}
 use Rattle.walk.specs.declared.Lengths.{Lengths}
 use Rattle.walk.specs.Legs.{Walked}
-use Rattle.witness.specs.declared.Witnessed.{Witnessed}
-use Rattle.witness.specs.declared.Witnessed.TheVariants as Answers
 use Rattle.witness.specs.Run.{moves_in, debts_in}
 use Rattle.witness.specs.WalkRight.{run_is_fair, run_begins, run_shows}
 use Rattle.witness.specs.Calls.{AnsweredAs, Sought, table, formula, asked_of, witness_outcome, Answered}
 
 -- what a look tells of its checks
 abbrev told : Answer → Outcome
-told (Looks.Shown l) = Accepted
-told (Looks.Refused r) = Refused r
+told (Ok l) = Ok tt
+told (Err r) = Err r
 
 told_lit : (o : Outcome) (m : model.Monitor) → told (lit o m) ≡ o
-told_lit Accepted m = refl
-told_lit (Refused r) m = refl
+told_lit (Ok _) m = refl
+told_lit (Err r) m = refl
 
 module _ (p : Plant) (fair label next : List ℕ) (rule : Rule) (m : Monitor) where
   -- 1, 2 and 9
@@ -72,16 +69,16 @@ module _ (p : Plant) (fair label next : List ℕ) (rule : Rule) (m : Monitor) wh
     unfolding look_call
     look_told = sym (ap told e ∙ told_lit looked (model_of m))
 
-    pub not_looked : {r : Refusal} → a ≡ Looks.Refused r → Refused r ≡ asked_of p fair label next rule m room
+    pub not_looked : {r : Refusal} → a ≡ Err r → Err r ≡ asked_of p fair label next rule m room
     unfolding asked_of
     not_looked f = first_refuses (unless (not (ltb room 49152)) Room) refl (look_told ∙ ap told f)
 
-    module _ {l : Lamp} (f : a ≡ Looks.Shown l) where
-      pub no_room : {r : Refusal} → room < 49152 → r ≡ refused_at Room 0 → Refused r ≡ asked_of p fair label next rule m room
+    module _ {l : Lamp} (f : a ≡ Ok l) where
+      pub no_room : {r : Refusal} → room < 49152 → r ≡ refused_at Room 0 → Err r ≡ asked_of p fair label next rule m room
       unfolding asked_of
       no_room less place = test_fails Room (ap not (lt-ltb room 49152 less)) refl place ∙ first_passes (unless (not (ltb room 49152)) Room) refl (look_told ∙ ap told f)
 
-      pub room_enough : 49152 ≤ room → Accepted ≡ asked_of p fair label next rule m room
+      pub room_enough : 49152 ≤ room → (Ok tt) ≡ asked_of p fair label next rule m room
       unfolding asked_of
       room_enough more = test_passes Room (ap not (le-ltb room 49152 more)) refl ∙ first_passes (unless (not (ltb room 49152)) Room) refl (look_told ∙ ap told f)
 
@@ -94,26 +91,26 @@ module _ (p : Plant) (fair label next : List ℕ) (rule : Rule) (m : Monitor) wh
     abbrev last : Outcome
     last = unless (has_live (table p fair label next rule m) (formula p fair label next rule m) asks) NoPair
 
-    abbrev As : List ℕ → Witnessed → Outcome → Type 0
+    abbrev As : List ℕ → Result Lengths Refusal → Outcome → Type 0
     As now r o = AnsweredAs (table p fair label next rule m) (formula p fair label next rule m) asks o before now r
 
-    pub not_asked : {r : Refusal} → o ≡ Refused r → Answered p fair label next rule m keeps before before (Answers.Refused r)
+    pub not_asked : {r : Refusal} → o ≡ Err r → Answered p fair label next rule m keeps before before (Err r)
     unfolding witness_outcome
-    not_asked {r} g = subst (As before (Answers.Refused r)) (first_refuses last e g) (refl, refl)
+    not_asked {r} g = subst (As before (Err r)) (first_refuses last e g) (refl, refl)
 
-    module _ (g : o ≡ Accepted) where
-      passed : (looked ≡ Accepted) × (unless (not (ltb (length before) 49152)) Room ≡ Accepted)
+    module _ (g : o ≡ Ok tt) where
+      passed : (looked ≡ Ok tt) × (unless (not (ltb (length before) 49152)) Room ≡ Ok tt)
       unfolding asked_of
       passed = (chain_accepts looked (unless (not (ltb (length before) 49152)) Room)).0 (sym e ∙ g)
 
       -- what the run asks for
-      pub in_order : (input_outcome p fair label next rule ≡ Accepted) × (49152 ≤ length before)
+      pub in_order : (input_outcome p fair label next rule ≡ Ok tt) × (49152 ≤ length before)
       in_order = (
         ((chain_accepts (input_outcome p fair label next rule) (unless fine Value)).0 passed.0).0,
         ltb-false (length before) 49152 (not-true _ ((unless_accepts (not (ltb (length before) 49152)) Room).0 passed.1)),
       )
 
-      pub answered : {asked : List ℕ} (now : List ℕ) (r : Witnessed) → asked ≡ asks → Sought (table p fair label next rule m) (formula p fair label next rule m) asked before now r
+      pub answered : {asked : List ℕ} (now : List ℕ) (r : Result Lengths Refusal) → asked ≡ asks → Sought (table p fair label next rule m) (formula p fair label next rule m) asked before now r
           → Answered p fair label next rule m keeps before now r
       unfolding witness_outcome
       answered now r s h = subst (As now r) (first_passes last e g) (rw s at h)
@@ -145,9 +142,9 @@ module _ {p : Plant} {fair label next : List ℕ} {rule : Rule} (i : Input p fai
       unfolding has_live
       has_some = sym (ap not (k ∙ ap empty_of (b ∙ ap (meet_of asked) is)))
 
-      pub none_live : none ≡ true → {r : Refusal} → r ≡ refused_at NoPair 0 → Sought T f asked before before (Answers.Refused r)
+      pub none_live : none ≡ true → {r : Refusal} → r ≡ refused_at NoPair 0 → Sought T f asked before before (Err r)
       none_live n {r} place =
-          subst (λ (o : Outcome). AnsweredAs T f asked o before before (Answers.Refused r)) (test_fails NoPair (has_some ∙ ap not n) refl place) (refl, refl)
+          subst (λ (o : Outcome). AnsweredAs T f asked o before before (Err r)) (test_fails NoPair (has_some ∙ ap not n) refl place) (refl, refl)
 
       module _ (n : none ≡ false) where
         pub begins : (y : ℕ) × (So (nodes_of asked y) × So (nodes_of live y))
@@ -155,7 +152,7 @@ module _ {p : Plant} {fair label next : List ℕ} {rule : Rule} (i : Input p fai
 
         pub goes : {l : Lengths} {now : List ℕ}
             → Walked (moves_in (ways_of label rule) next) (debts_in (ways_of label rule) fair) (nodes_of live) (nodes_of asked) before now l.stem l.turn
-            → Sought T f asked before now (Answers.Run l)
+            → Sought T f asked before now (Ok l)
         unfolding ways_of
-        goes {l} {now} w = subst (λ (o : Outcome). AnsweredAs T f asked o before now (Answers.Run l)) (test_passes NoPair (has_some ∙ ap not n) refl)
+        goes {l} {now} w = subst (λ (o : Outcome). AnsweredAs T f asked o before now (Ok l)) (test_passes NoPair (has_some ∙ ap not n) refl)
             (l, refl, run_shows T f i.table i.few (tables_of label rule) (right i) (rw is at w))

@@ -8,19 +8,12 @@ ghost use Rattle.model.specs.Monitor as model;
 ghost use Rattle.sides.specs.Held.{model_of};
 ghost use Rattle.witness.specs.Calls.{asked_of, Answered};
 
-use answers::{Answer, Kind, Outcome, Refusal};
+use answers::{Answer, Kind, Refusal};
 use monitor::Monitor;
 use pairs::Pairs;
 use plant::Plant;
 use syntax::Rule;
 use walk::Lengths;
-
-// How many states the stem and the loop have, or why there is none.
-#[derive(Clone, Copy)]
-pub enum Witnessed {
-    Run(Lengths),
-    Refused(Refusal),
-}
 
 // The pairs of the runs of the asked kind.
 fn side(monitor: Monitor, keeps: bool) -> Pairs
@@ -38,19 +31,14 @@ fn check_asked(
     rule: Rule,
     monitor: Monitor,
     room: usize,
-) -> Outcome
+) -> Result<(), Refusal>
     ensures { result ≡ asked_of plant fair.now label.now next.now rule monitor room }
 {
-    let looked = monitor::look(plant, fair, label, next, rule, monitor);
-    match looked {
-        Answer::Refused(refusal) => Outcome::Refused(refusal),
-        Answer::Shown(_) => {
-            if room < Lengths::ROOM {
-                return Outcome::Refused(Refusal::at(Kind::Room, 0));
-            }
-            Outcome::Accepted
-        }
+    monitor::look(plant, fair, label, next, rule, monitor)?;
+    if room < Lengths::ROOM {
+        return Err(Refusal::at(Kind::Room, 0));
     }
+    Ok(())
 }
 
 // The states of the stem are written from the first byte on, those of the loop behind them.
@@ -63,15 +51,10 @@ pub fn witness(
     monitor: Monitor,
     keeps: bool,
     buffer: &mut [u8],
-) -> Witnessed
+) -> Result<Lengths, Refusal>
     ensures { Answered plant fair.now label.now next.now rule monitor keeps buffer.old buffer.new result }
 {
-    let outcome = check_asked(plant, fair, label, next, rule, monitor, buffer.len());
-    match outcome {
-        Outcome::Refused(refusal) => Witnessed::Refused(refusal),
-        Outcome::Accepted => {
-            let asked = side(monitor, keeps);
-            run::write_run(plant, fair, label, next, rule, &asked.words, buffer)
-        }
-    }
+    check_asked(plant, fair, label, next, rule, monitor, buffer.len())?;
+    let asked = side(monitor, keeps);
+    run::write_run(plant, fair, label, next, rule, &asked.words, buffer)
 }

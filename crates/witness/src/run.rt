@@ -1,12 +1,11 @@
 // The run of a witness by what the rule says, which is worked out once: for the live pairs, and for the walk through them.
-ghost use Rattle.std.specs.Prelude.{◌≡◌, ◌≤◌, length};
-ghost use Rattle.answers.specs.declared.Outcome.TheVariants.{Accepted};
+ghost use Rattle.std.specs.Prelude.{◌≡◌, ◌≤◌, length, Ok};
 ghost use Rattle.plant.specs.Table.{plant_of};
 ghost use Rattle.checks.specs.Checks.{input_outcome};
 ghost use Rattle.syntax.specs.Value.{formula_of};
 ghost use Rattle.witness.specs.Calls.{Sought};
 
-use crate::Witnessed;
+use crate::Lengths;
 use answers::{Kind, Refusal};
 use plant::Plant;
 use sweeps::reach::meet;
@@ -23,8 +22,8 @@ pub fn write_run(
     rule: Rule,
     asked: &[u64; 64],
     buffer: &mut [u8],
-) -> Witnessed
-    requires { (input_outcome plant fair.now label.now next.now rule ≡ Accepted) × (49152 ≤ length buffer.old) }
+) -> Result<Lengths, Refusal>
+    requires { (input_outcome plant fair.now label.now next.now rule ≡ Ok tt) × (49152 ≤ length buffer.old) }
     ensures { Sought (plant_of plant fair.now label.now next.now) (formula_of rule) asked.now
         buffer.old buffer.new result }
 {
@@ -40,7 +39,7 @@ pub fn write_run(
     );
     let both = meet(asked, &live.words);
     if both.is_empty() {
-        return Witnessed::Refused(Refusal::at(Kind::NoPair, 0));
+        return Err(Refusal::at(Kind::NoPair, 0));
     }
     let lengths = walk::write_walk(
         next,
@@ -54,5 +53,5 @@ pub fn write_run(
         asked,
         buffer,
     );
-    Witnessed::Run(lengths)
+    Ok(lengths)
 }

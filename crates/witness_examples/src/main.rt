@@ -1,7 +1,6 @@
 // How runs go on in the marked examples of 01, M1 to M10, and in P, the program's own: two lines at the start and two at the end of each log.
 #![tactic(auto)]
 
-use answers::Outcome;
 use plant::Plant;
 
 // Plant W (01, The plant table), whose fairness sets and moves an example may change.
@@ -14,7 +13,7 @@ fn show<P: Print>(to: &P, name: &[u8], fair: &[u64], next: &[u64], text: &[u8], 
     };
     let label = [0u16, 1, 2];
     let read = rule::read_rule(plant, fair, &label, next, text);
-    if let Outcome::Accepted = read.outcome {
+    if let Ok(()) = read.outcome {
         outlook::show_end(to, name, plant, fair, &label, next, read.rule, events);
     }
 }

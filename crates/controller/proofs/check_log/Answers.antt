@@ -5,14 +5,14 @@ use Rattle.controller.proofs.check_log.Goals as goal
 pub returns-then-read-room : goal.returns-then-read-room
 returns-then-read-room c =
     let a = c.args in
-    enough a.props a.log.now a.room c.read_log-read.ensures c.in-Accepted.is c.if-read-room.true
+    enough a.props a.log.now a.room c.read_log-read.ensures c.in-Ok.is c.if-read-room.true
 
-pub returns-in-Refused : goal.returns-in-Refused
-returns-in-Refused c =
+pub returns-in-Err : goal.returns-in-Err
+returns-in-Err c =
     let a = c.args in
-    misformed a.props a.log.now a.room c.read_log-read.ensures c.in-Refused.is
+    misformed a.props a.log.now a.room c.read_log-read.ensures c.in-Err.is
 
 pub returns-else-read-room : goal.returns-else-read-room
 returns-else-read-room c =
     let a = c.args in
-    short a.props a.log.now a.room c.read_log-read.ensures c.in-Accepted.is c.if-read-room.false c.at.ensures
+    short a.props a.log.now a.room c.read_log-read.ensures c.in-Ok.is c.if-read-room.false c.at.ensures

@@ -5,14 +5,14 @@ use Rattle.controller.proofs.to_end.Goals as goal
 pub end_of-requires : goal.end_of-requires
 end_of-requires c =
     let a = c.args in
-    (lent_by a.table.now a.rule.now c.open_texts-opened.ensures, fits_by a.table.now a.rule.now c.open_texts-opened.ensures c.in-Accepted.is)
+    (lent_by a.table.now a.rule.now c.open_texts-opened.ensures, fits_by a.table.now a.rule.now c.open_texts-opened.ensures c.in-Ok.is)
 
-pub returns-in-Refused : goal.returns-in-Refused
-returns-in-Refused c =
+pub returns-in-Err : goal.returns-in-Err
+returns-in-Err c =
     let a = c.args in
-    end_from_lem a.table.now a.rule.now a.log.now c.open_texts-opened.ensures c.in-Refused.is c.refused.ensures
+    end_from_lem a.table.now a.rule.now a.log.now c.open_texts-opened.ensures c.in-Err.is c.refused.ensures
 
-pub returns-in-Accepted : goal.returns-in-Accepted
-returns-in-Accepted c =
+pub returns-in-Ok : goal.returns-in-Ok
+returns-in-Ok c =
     let a = c.args in
-    end_from_lem a.table.now a.rule.now a.log.now c.open_texts-opened.ensures c.in-Accepted.is c.end_of.ensures
+    end_from_lem a.table.now a.rule.now a.log.now c.open_texts-opened.ensures c.in-Ok.is c.end_of.ensures

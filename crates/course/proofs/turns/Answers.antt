@@ -11,16 +11,16 @@ loop-n-init c =
     let long = length c.args.text.now in
     (zero-le, omega (arith, div-le_self long told.result), ap (λ (n : ℕ). long / n) told.ensures, starts _ _ _ _ _ _ _ _ _ _)
 
-pub returns-in-Refused : goal.returns-in-Refused
-returns-in-Refused c =
+pub returns-in-Err : goal.returns-in-Err
+returns-in-Err c =
     let inv = c.loop-n.invariant in
     rw c.ended.ensures
-    (stops _ _ _ _ _ _ _ _ _ _ inv.3 c.event_at-event.ensures _ (sym c.check_event-outcome.ensures ∙ c.in-Refused.is) (omega (arith, c.loop-n-test.true, inv.2)))
+    (stops _ _ _ _ _ _ _ _ _ _ inv.3 c.event_at-event.ensures _ (sym c.check_event-outcome.ensures ∙ c.in-Err.is) (omega (arith, c.loop-n-test.true, inv.2)))
 
 pub take_lent-number-requires : goal.take_lent-number-requires
 take_lent-number-requires c =
     let start = c.before.before in
-    (start.requires.0, start.requires.1, accepted_number _ _ _ _ (sym c.check_event-outcome.ensures ∙ c.in-Accepted.is))
+    (start.requires.0, start.requires.1, accepted_number _ _ _ _ (sym c.check_event-outcome.ensures ∙ c.in-Ok.is))
 
 pub overflow_add-expected : goal.overflow_add-expected
 overflow_add-expected c = grind (arith, common_steps, accepted_number)

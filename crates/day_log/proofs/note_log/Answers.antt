@@ -9,10 +9,10 @@ loop-n-init c =
     let long = length c.args.text.now in
     (zero-le, omega (arith, div-le_self long told.result), ap (λ (n : ℕ). long / n) told.ensures, starts _ _ _ _)
 
-pub returns-in-Refused : goal.returns-in-Refused
-returns-in-Refused c =
+pub returns-in-Err : goal.returns-in-Err
+returns-in-Err c =
     let inv = c.loop-n.invariant in
-    stops _ _ _ _ inv.3 c.event_at-event.ensures c.note-noted.ensures _ c.in-Refused.is (omega (arith, c.loop-n-test.true, inv.2))
+    stops _ _ _ _ inv.3 c.event_at-event.ensures c.note-noted.ensures _ c.in-Err.is (omega (arith, c.loop-n-test.true, inv.2))
 
 pub loop-n-preserved : goal.loop-n-preserved
 loop-n-preserved c =
@@ -20,5 +20,5 @@ loop-n-preserved c =
       omega (arith, c.loop-n-test.true),
       inv.1,
       inv.2,
-      goes_on _ _ _ _ inv.3 c.event_at-event.ensures c.note-noted.ensures c.in-Shown.is,
+      goes_on _ _ _ _ inv.3 c.event_at-event.ensures c.note-noted.ensures c.in-Ok.is,
     )

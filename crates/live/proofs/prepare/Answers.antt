@@ -9,15 +9,15 @@ live_pairs-requires c =
     let a = c.args in
     in_order a.plant a.fair.now a.label.now a.next.now a.rule
     (accepted a.plant a.fair.now a.label.now a.next.now a.rule (search rules)
-    c.check_input-outcome.ensures c.in-Accepted.is)
+    c.check_input-outcome.ensures c.in-Ok.is)
 
-pub returns-in-Refused : goal.returns-in-Refused
-returns-in-Refused c =
+pub returns-in-Err : goal.returns-in-Err
+returns-in-Err c =
     let a = c.args in
-    refused a.plant a.fair.now a.label.now a.next.now a.rule c.check_input-outcome.ensures c.in-Refused.is c.empty.ensures
+    refused a.plant a.fair.now a.label.now a.next.now a.rule c.check_input-outcome.ensures c.in-Err.is c.empty.ensures
 
-pub returns-in-Accepted : goal.returns-in-Accepted
-returns-in-Accepted c =
+pub returns-in-Ok : goal.returns-in-Ok
+returns-in-Ok c =
     let a = c.args in
     prepared a.plant a.fair.now a.label.now a.next.now a.rule (search rules)
-    c.check_input-outcome.ensures c.in-Accepted.is c.live_pairs.ensures
+    c.check_input-outcome.ensures c.in-Ok.is c.live_pairs.ensures

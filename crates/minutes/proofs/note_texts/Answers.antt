@@ -7,12 +7,12 @@ with_opened-requires c =
     let a = c.args in
     lent_by a.table.now a.rule.now c.open_texts-opened.ensures
 
-pub returns-in-Refused : goal.returns-in-Refused
-returns-in-Refused c =
+pub returns-in-Err : goal.returns-in-Err
+returns-in-Err c =
     let a = c.args in
-    opened_by_lem a.table.now a.rule.now c.open_texts-opened.ensures a.log.now c.in-Refused.is c.refused.ensures
+    opened_by_lem a.table.now a.rule.now c.open_texts-opened.ensures a.log.now c.in-Err.is c.refused.ensures
 
-pub returns-in-Accepted : goal.returns-in-Accepted
-returns-in-Accepted c =
+pub returns-in-Ok : goal.returns-in-Ok
+returns-in-Ok c =
     let a = c.args in
-    opened_by_lem a.table.now a.rule.now c.open_texts-opened.ensures a.log.now c.in-Accepted.is c.with_opened.ensures
+    opened_by_lem a.table.now a.rule.now c.open_texts-opened.ensures a.log.now c.in-Ok.is c.with_opened.ensures

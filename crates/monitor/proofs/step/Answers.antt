@@ -12,23 +12,23 @@ stepped-stepped-requires c =
     let m = g.1.0.1.1 in
     let given = step_given a.plant a.fair.now a.label.now a.next.now a.rule (search rules) a.live a.monitor a.event
     (words_of a.live.words g.0.1.1.0) (words_of a.monitor.keeps.words m.1.0.1.1.0) (words_of a.monitor.breaks.words m.1.1.0.1.1.0)
-    c.check_step-outcome.ensures c.in-Accepted.is in
+    c.check_step-outcome.ensures c.in-Ok.is in
     (ready given.0, given.1)
 
-pub returns-in-Refused : goal.returns-in-Refused
-returns-in-Refused c =
+pub returns-in-Err : goal.returns-in-Err
+returns-in-Err c =
     let a = c.args in
     let g = c.well_formed.1.1.1.1.1 in
     let m = g.1.0.1.1 in
     not_stepped a.plant a.fair.now a.label.now a.next.now a.rule (search rules) a.live a.monitor a.event
     (words_of a.live.words g.0.1.1.0) (words_of a.monitor.keeps.words m.1.0.1.1.0) (words_of a.monitor.breaks.words m.1.1.0.1.1.0)
-    c.check_step-outcome.ensures c.in-Refused.is
+    c.check_step-outcome.ensures c.in-Err.is
 
-pub returns-in-Accepted : goal.returns-in-Accepted
-returns-in-Accepted c =
+pub returns-in-Ok : goal.returns-in-Ok
+returns-in-Ok c =
     let a = c.args in
     let g = c.well_formed.1.1.1.1.1 in
     let m = g.1.0.1.1 in
     is_stepped a.plant a.fair.now a.label.now a.next.now a.rule (search rules) a.live a.monitor a.event
     (words_of a.live.words g.0.1.1.0) (words_of a.monitor.keeps.words m.1.0.1.1.0) (words_of a.monitor.breaks.words m.1.1.0.1.1.0)
-    c.check_step-outcome.ensures c.in-Accepted.is c.stepped-stepped.ensures c.lamp.ensures
+    c.check_step-outcome.ensures c.in-Ok.is c.stepped-stepped.ensures c.lamp.ensures

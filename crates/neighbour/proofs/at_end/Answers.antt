@@ -5,8 +5,8 @@ use Rattle.std.proofs.Common.{arith}
 use Rattle.std.proofs.lemmas.Grind.{common_steps}
 use Rattle.neighbour.proofs.at_end.Goals as goal
 
-pub returns-in-Refused : goal.returns-in-Refused
-returns-in-Refused c = grind (arith, common_steps, fair_in, label_in, next_in, refused_by_lem)
+pub returns-in-Err : goal.returns-in-Err
+returns-in-Err c = grind (arith, common_steps, fair_in, label_in, next_in, refused_by_lem)
 
-pub returns-in-Accepted : goal.returns-in-Accepted
-returns-in-Accepted c = grind (arith, common_steps, fair_in, label_in, next_in, judged_by)
+pub returns-in-Ok : goal.returns-in-Ok
+returns-in-Ok c = grind (arith, common_steps, fair_in, label_in, next_in, judged_by)

@@ -14,12 +14,12 @@ behind c r = table_opened r.table c.args.rule.now
 pub with_table-requires : goal.with_table-requires
 with_table-requires c = lent _ _ c.read_table-read.ensures
 
-pub returns-in-Refused : goal.returns-in-Refused
+pub returns-in-Err : goal.returns-in-Err
 unfolding opened_of
-returns-in-Refused c =
-    refused_there (λ (r : TableRead). r.outcome) (behind (goal.at.returns-in-Refused c).Start) c.read_table-read.ensures c.in-Refused.is c.refused.ensures
+returns-in-Err c =
+    refused_there (λ (r : TableRead). r.outcome) (behind (goal.at.returns-in-Err c).Start) c.read_table-read.ensures c.in-Err.is c.refused.ensures
 
-pub returns-in-Accepted : goal.returns-in-Accepted
+pub returns-in-Ok : goal.returns-in-Ok
 unfolding opened_of
-returns-in-Accepted c =
-    opened_there (λ (r : TableRead). r.outcome) (behind (goal.at.returns-in-Accepted c).Start) c.read_table-read.ensures c.in-Accepted.is c.with_table.ensures
+returns-in-Ok c =
+    opened_there (λ (r : TableRead). r.outcome) (behind (goal.at.returns-in-Ok c).Start) c.read_table-read.ensures c.in-Ok.is c.with_table.ensures

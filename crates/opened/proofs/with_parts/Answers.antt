@@ -10,12 +10,12 @@ use Rattle.opened.proofs.with_parts.Goals.{Start}
 abbrev behind : goal.Start → RuleRead → Opened
 behind c r = let a = c.args in rule_opened a.table a.fair.now a.label.now a.next.now r.rule
 
-pub returns-in-Refused : goal.returns-in-Refused
+pub returns-in-Err : goal.returns-in-Err
 unfolding parts_opened
-returns-in-Refused c =
-    refused_there (λ (r : RuleRead). r.outcome) (behind (goal.at.returns-in-Refused c).Start) c.read_rule-read.ensures c.in-Refused.is c.refused.ensures
+returns-in-Err c =
+    refused_there (λ (r : RuleRead). r.outcome) (behind (goal.at.returns-in-Err c).Start) c.read_rule-read.ensures c.in-Err.is c.refused.ensures
 
-pub returns-in-Accepted : goal.returns-in-Accepted
+pub returns-in-Ok : goal.returns-in-Ok
 unfolding parts_opened
-returns-in-Accepted c =
-    opened_there (λ (r : RuleRead). r.outcome) (behind (goal.at.returns-in-Accepted c).Start) c.read_rule-read.ensures c.in-Accepted.is c.with_rule.ensures
+returns-in-Ok c =
+    opened_there (λ (r : RuleRead). r.outcome) (behind (goal.at.returns-in-Ok c).Start) c.read_rule-read.ensures c.in-Ok.is c.with_rule.ensures

@@ -13,11 +13,11 @@ use Rattle.opened.proofs.with_rule.Goals.{Start}
 abbrev behind : goal.Start → Prepared → Opened
 behind c r = let a = c.args in made a.table a.rule r.live (open_call a.table.plant a.fair.now a.label.now a.next.now a.rule r.live).monitor
 
-pub returns-in-Refused : goal.returns-in-Refused
+pub returns-in-Err : goal.returns-in-Err
 unfolding rule_opened
-returns-in-Refused c =
-    refused_there (λ (r : Prepared). r.outcome) (behind (goal.at.returns-in-Refused c).Start) c.prepare-prepared.ensures c.in-Refused.is c.refused.ensures
+returns-in-Err c =
+    refused_there (λ (r : Prepared). r.outcome) (behind (goal.at.returns-in-Err c).Start) c.prepare-prepared.ensures c.in-Err.is c.refused.ensures
 
-pub returns-in-Accepted : goal.returns-in-Accepted
+pub returns-in-Ok : goal.returns-in-Ok
 unfolding rule_opened
-returns-in-Accepted c = grind (arith, common_steps, made, opened_there, behind)
+returns-in-Ok c = grind (arith, common_steps, made, opened_there, behind)

@@ -6,19 +6,19 @@ use Rattle.scraps.proofs.check_take.Goals as goal
 pub overflow_add-radio : goal.overflow_add-radio
 overflow_add-radio c =
     let a = c.args in
-    record { fits = omega (arith, few_taken a.plant a.fair.now a.label.now a.next.now a.rule a.live a.radio (sym c.check_kept.ensures ∙ c.in-Accepted.is)) }
+    record { fits = omega (arith, few_taken a.plant a.fair.now a.label.now a.next.now a.rule a.live a.radio (sym c.check_kept.ensures ∙ c.in-Ok.is)) }
 
 pub check_room-requires : goal.check_room-requires
 check_room-requires c =
     let a = c.args in
-    few_taken a.plant a.fair.now a.label.now a.next.now a.rule a.live a.radio (sym c.check_kept.ensures ∙ c.in-Accepted.is)
+    few_taken a.plant a.fair.now a.label.now a.next.now a.rule a.live a.radio (sym c.check_kept.ensures ∙ c.in-Ok.is)
 
-pub returns-in-Refused : goal.returns-in-Refused
-returns-in-Refused c =
+pub returns-in-Err : goal.returns-in-Err
+returns-in-Err c =
     let a = c.args in
-    take_refused a.plant a.fair.now a.label.now a.next.now a.rule a.live a.radio a.scrap.now a.room c.check_kept.ensures c.in-Refused.is
+    take_refused a.plant a.fair.now a.label.now a.next.now a.rule a.live a.radio a.scrap.now a.room c.check_kept.ensures c.in-Err.is
 
-pub returns-in-Accepted : goal.returns-in-Accepted
-returns-in-Accepted c =
+pub returns-in-Ok : goal.returns-in-Ok
+returns-in-Ok c =
     let a = c.args in
-    take_passes a.plant a.fair.now a.label.now a.next.now a.rule a.live a.radio a.scrap.now a.room c.check_kept.ensures c.in-Accepted.is c.check_room.ensures
+    take_passes a.plant a.fair.now a.label.now a.next.now a.rule a.live a.radio a.scrap.now a.room c.check_kept.ensures c.in-Ok.is c.check_room.ensures

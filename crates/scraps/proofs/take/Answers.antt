@@ -8,18 +8,18 @@ use Rattle.scraps.proofs.take.Goals as goal
 pub listen-went-requires : goal.listen-went-requires
 listen-went-requires c =
     let a = c.args in
-    let (kept, room) = take_parts a.plant a.fair.now a.label.now a.next.now a.rule a.live a.radio a.scrap.now (length a.verdicts.now) (sym c.check_take-outcome.ensures ∙ c.in-Accepted.is) in
+    let (kept, room) = take_parts a.plant a.fair.now a.label.now a.next.now a.rule a.live a.radio a.scrap.now (length a.verdicts.now) (sym c.check_take-outcome.ensures ∙ c.in-Ok.is) in
     (fitting a.plant a.fair.now a.label.now a.next.now a.rule a.live a.radio kept, fit a.plant a.fair.now a.label.now a.next.now a.rule a.live a.radio kept (search rules) a.scrap.now (length a.verdicts.now) room)
 
-pub returns-in-Refused : goal.returns-in-Refused
+pub returns-in-Err : goal.returns-in-Err
 unfolding laid
-returns-in-Refused c =
+returns-in-Err c =
     let a = c.args in
-    let none = took_none a.plant a.fair.now a.label.now a.next.now a.rule a.live a.radio a.scrap.now (length a.verdicts.now) c.check_take-outcome.ensures c.in-Refused.is in
+    let none = took_none a.plant a.fair.now a.label.now a.next.now a.rule a.live a.radio a.scrap.now (length a.verdicts.now) c.check_take-outcome.ensures c.in-Err.is in
     record { taken = ap (λ (t : Took). t.taken) none; verdicts = ap (λ (t : Took). laid t.verdicts a.verdicts.now) none }
 
-pub returns-in-Accepted : goal.returns-in-Accepted
-returns-in-Accepted c =
+pub returns-in-Ok : goal.returns-in-Ok
+returns-in-Ok c =
     let a = c.args in
-    let some = took_some a.plant a.fair.now a.label.now a.next.now a.rule a.live a.radio a.scrap.now (length a.verdicts.now) c.check_take-outcome.ensures c.in-Accepted.is c.listen-went.ensures c.answer_of.ensures in
+    let some = took_some a.plant a.fair.now a.label.now a.next.now a.rule a.live a.radio a.scrap.now (length a.verdicts.now) c.check_take-outcome.ensures c.in-Ok.is c.listen-went.ensures c.answer_of.ensures in
     record { taken = some.0; verdicts = some.1 }

@@ -4,16 +4,16 @@ use Rattle.transcript.specs.Said.{log_text, rule_text, file_of}
 use Rattle.transcript.proofs.Cases.{refused_said, accepted_said}
 use Rattle.transcript.proofs.with_parts.Goals as goal
 
-pub returns-in-Refused : goal.returns-in-Refused
+pub returns-in-Err : goal.returns-in-Err
 unfolding rule_text
-returns-in-Refused c =
+returns-in-Err c =
     let a = c.args in
     refused_said (λ (r : RuleRead). r.outcome) (λ (r : RuleRead). log_text a.plant a.fair.now a.label.now a.next.now r.rule (file_of a.logged a.log.now))
-    c.read_rule-read.ensures c.in-Refused.is c.put_refused.ensures
+    c.read_rule-read.ensures c.in-Err.is c.put_refused.ensures
 
-pub returns-in-Accepted : goal.returns-in-Accepted
+pub returns-in-Ok : goal.returns-in-Ok
 unfolding rule_text
-returns-in-Accepted c =
+returns-in-Ok c =
     let a = c.args in
     accepted_said (λ (r : RuleRead). r.outcome) (λ (r : RuleRead). log_text a.plant a.fair.now a.label.now a.next.now r.rule (file_of a.logged a.log.now))
-    c.read_rule-read.ensures c.in-Accepted.is c.with_rule.ensures
+    c.read_rule-read.ensures c.in-Ok.is c.with_rule.ensures

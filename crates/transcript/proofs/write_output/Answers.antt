@@ -5,10 +5,10 @@ use Rattle.std.proofs.Common.{arith}
 use Rattle.std.proofs.lemmas.Grind.{common_steps}
 use Rattle.transcript.proofs.write_output.Goals as goal
 
-pub returns-in-Refused : goal.returns-in-Refused
+pub returns-in-Err : goal.returns-in-Err
 unfolding output_of
-returns-in-Refused c = grind (arith, common_steps, table_text, file_of, refused_said)
+returns-in-Err c = grind (arith, common_steps, table_text, file_of, refused_said)
 
-pub returns-in-Accepted : goal.returns-in-Accepted
+pub returns-in-Ok : goal.returns-in-Ok
 unfolding output_of
-returns-in-Accepted c = grind (arith, common_steps, table_text, file_of, accepted_said)
+returns-in-Ok c = grind (arith, common_steps, table_text, file_of, accepted_said)

@@ -7,16 +7,16 @@ pub write_run-requires : goal.write_run-requires
 write_run-requires c =
     let a = c.args in
     in_order a.plant a.fair.now a.label.now a.next.now a.rule a.monitor (search rules) a.keeps a.buffer.now
-    c.check_asked-outcome.ensures c.in-Accepted.is
+    c.check_asked-outcome.ensures c.in-Ok.is
 
-pub returns-in-Refused : goal.returns-in-Refused
-returns-in-Refused c =
+pub returns-in-Err : goal.returns-in-Err
+returns-in-Err c =
     let a = c.args in
     not_asked a.plant a.fair.now a.label.now a.next.now a.rule a.monitor (search rules) a.keeps a.buffer.now
-    c.check_asked-outcome.ensures c.in-Refused.is
+    c.check_asked-outcome.ensures c.in-Err.is
 
-pub returns-in-Accepted : goal.returns-in-Accepted
-returns-in-Accepted c =
+pub returns-in-Ok : goal.returns-in-Ok
+returns-in-Ok c =
     let a = c.args in
     answered a.plant a.fair.now a.label.now a.next.now a.rule a.monitor (search rules) a.keeps a.buffer.now
-    c.check_asked-outcome.ensures c.in-Accepted.is _ _ c.side-asked.ensures c.write_run.ensures
+    c.check_asked-outcome.ensures c.in-Ok.is _ _ c.side-asked.ensures c.write_run.ensures

@@ -8,13 +8,13 @@ pub returns-then-end : goal.returns-then-end
 returns-then-end c =
     c.refused.ensures ∙ ap refused_read c.at.ensures ∙ read_unfit _ _ _ c.parse.ensures (grind (arith, common_steps))
 
-pub returns-in-Accepted : goal.returns-in-Accepted
-returns-in-Accepted c =
-    let told = c.in-Accepted.is in
+pub returns-in-Ok : goal.returns-in-Ok
+returns-in-Ok c =
+    let told = c.in-Ok.is in
     rw told (read_fits _ _ _ c.parse.ensures _ (grind (arith, common_steps)) (sym told ∙ c.check_read-outcome.ensures))
 
-pub returns-in-Refused : goal.returns-in-Refused
-returns-in-Refused c =
-    let told = c.in-Refused.is in
-    c.refused-in-Refused.ensures
+pub returns-in-Err : goal.returns-in-Err
+returns-in-Err c =
+    let told = c.in-Err.is in
+    c.refused-in-Err.ensures
     ∙ read_fits _ _ _ c.parse.ensures _ (grind (arith, common_steps)) (sym told ∙ c.check_read-outcome.ensures)

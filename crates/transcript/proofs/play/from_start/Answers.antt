@@ -11,9 +11,9 @@ use Rattle.transcript.proofs.play.from_start.Goals as goal
 pub behind_start-requires : goal.behind_start-requires
 behind_start-requires c = search (rules, put_length, fits_opened)
 
-pub returns-in-Shown : goal.returns-in-Shown
-returns-in-Shown c =
+pub returns-in-Ok : goal.returns-in-Ok
+returns-in-Ok c =
     let a = c.args in
     opened_said (bytes_in (width_of a.plant.props) a.log.now) (λ (m : Monitor). course_of a.plant a.fair.now a.label.now a.next.now a.rule a.live m a.log.now) c.open-opened.ensures
-    c.in-Shown.is c.put_start-at.ensures.text
+    c.in-Ok.is c.put_start-at.ensures.text
     c.behind_start.ensures

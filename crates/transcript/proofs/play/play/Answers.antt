@@ -8,20 +8,20 @@ use Rattle.transcript.specs.Said.{opened_text, played_text}
 use Rattle.transcript.proofs.Cases.{refused_said, accepted_said}
 use Rattle.transcript.proofs.play.play.Goals as goal
 
-pub returns-in-Refused : goal.returns-in-Refused
+pub returns-in-Err : goal.returns-in-Err
 unfolding played_text
-returns-in-Refused c =
+returns-in-Err c =
     let a = c.args in
     refused_said (λ (r : Prepared). r.outcome)
     (λ (r : Prepared). opened_text (bytes_in (width_of a.plant.props) a.log.now) (open_call a.plant a.fair.now a.label.now a.next.now a.rule r.live).answer
     (course_of a.plant a.fair.now a.label.now a.next.now a.rule r.live (open_call a.plant a.fair.now a.label.now a.next.now a.rule r.live).monitor a.log.now))
-    c.prepare-prepared.ensures c.in-Refused.is c.put_refused.ensures
+    c.prepare-prepared.ensures c.in-Err.is c.put_refused.ensures
 
-pub returns-in-Accepted : goal.returns-in-Accepted
+pub returns-in-Ok : goal.returns-in-Ok
 unfolding played_text
-returns-in-Accepted c =
+returns-in-Ok c =
     let a = c.args in
     accepted_said (λ (r : Prepared). r.outcome)
     (λ (r : Prepared). opened_text (bytes_in (width_of a.plant.props) a.log.now) (open_call a.plant a.fair.now a.label.now a.next.now a.rule r.live).answer
     (course_of a.plant a.fair.now a.label.now a.next.now a.rule r.live (open_call a.plant a.fair.now a.label.now a.next.now a.rule r.live).monitor a.log.now))
-    c.prepare-prepared.ensures c.in-Accepted.is c.from_start.ensures
+    c.prepare-prepared.ensures c.in-Ok.is c.from_start.ensures

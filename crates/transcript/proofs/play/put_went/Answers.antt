@@ -3,5 +3,5 @@ use Rattle.std.proofs.Common.{rules}
 use Rattle.transcript.proofs.Cases.{went_stopped}
 use Rattle.transcript.proofs.play.put_went.Goals as goal
 
-pub returns-in-Refused : goal.returns-in-Refused
-returns-in-Refused c = search (rules, went_stopped)
+pub returns-in-Err : goal.returns-in-Err
+returns-in-Err c = search (rules, went_stopped)
