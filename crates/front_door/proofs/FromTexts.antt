@@ -1,5 +1,5 @@
 -- From texts to lamps: the readers give what the texts say, and the calls show the rest. Here are the two claims of FrontDoor proved.
-use Rattle.std.specs.Prelude.{ℕ, ◌≤◌, ◌<◌, ◌≡◌, Bool, true, false, cond, List, ◌++◌, ◌↔◌, ltb, length, Ok, Err}
+use Rattle.std.specs.Prelude.{ℕ, ◌≤◌, ◌<◌, ◌≡◌, Bool, true, false, cond, List, ◌++◌, ◌↔◌, ltb, length, Ok, Err, Result}
 use Rattle.std.proofs.Common.{arith, ap, subst, ◌∙◌}
 use Rattle.std.proofs.Math.Path.{refl}
 use Rattle.std.proofs.Math.Logic.{inl, inr, ⊎_elim}
@@ -22,8 +22,6 @@ use Rattle.plant.specs.Written.{table_slots, table_text}
 use Rattle.plant.specs.Promises as plants
 use Rattle.plant.specs.Promises.{accepted_formed}
 use Rattle.syntax.specs.declared.Rule.{Rule}
-use Rattle.syntax.specs.declared.Scan.{Scan}
-use Rattle.syntax.specs.declared.Scan.TheVariants.{Good, Bad}
 use Rattle.syntax.specs.Reader.{parse}
 use Rattle.syntax.specs.Scan.{scan}
 use Rattle.syntax.specs.Value.{rule_of, empty_rule, held, count}
@@ -158,9 +156,9 @@ by_table : (o : Outcome) (x : RuleRead) → Answer x → Answer (of_table x o)
 by_table (Ok _) x a = a
 by_table (Err r) x a = refuses r.kind r.place
 
-by_scan : (c : Scan) (x : RuleRead) → Answer x → Answer (of_scan x c)
-by_scan Good x a = a
-by_scan (Bad i) x a = refuses RuleText i
+by_scan : (c : Result (Unit {0}) ℕ) (x : RuleRead) → Answer x → Answer (of_scan x c)
+by_scan (Ok _) x a = a
+by_scan (Err i) x a = refuses RuleText i
 
 by_name : (n : Option ℕ) (x : RuleRead) → Answer x → Answer (of_found x n)
 by_name (Some i) x a = refuses Proposition i

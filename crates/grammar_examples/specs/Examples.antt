@@ -1,7 +1,6 @@
 -- The texts of 01, Marked examples, computed.
-use Rattle.std.specs.Prelude.{◌≡◌, refl, [], ◌∷◌}
+use Rattle.std.specs.Prelude.{◌≡◌, refl, [], ◌∷◌, Ok, Err}
 use Rattle.meaning.specs.Formula.{prop, neg, until, and, implies}
-use Rattle.syntax.specs.declared.Scan.TheVariants.{Good, Bad}
 use Rattle.syntax.specs.Bytes.{sign_of, leaf_of, name_of, name_bytes, lex_sign, lex}
 use Rattle.syntax.specs.Grammar.{spell}
 use Rattle.syntax.specs.Postfix.{postfix}
@@ -10,76 +9,76 @@ use Rattle.syntax.specs.Reader.{head, tail, read, more, parse}
 use Rattle.syntax.specs.Scan.{closes, named, teen, scan_from, scan}
 
 -- ``
-scan_1 : scan ([]) ≡ Bad 0
+scan_1 : scan ([]) ≡ Err 0
 unfolding scan scan_from sign_of closes named teen
 scan_1 = refl
 
 -- `p0 p1`
-scan_2 : scan (112 ∷ 48 ∷ 32 ∷ 112 ∷ 49 ∷ []) ≡ Bad 3
+scan_2 : scan (112 ∷ 48 ∷ 32 ∷ 112 ∷ 49 ∷ []) ≡ Err 3
 unfolding scan scan_from sign_of closes named teen
 scan_2 = refl
 
 -- `p8`, `p15`: names; `p16`, `p01`, `p1 0`, `p`, `p 1`: none
-scan_3 : scan (112 ∷ 56 ∷ []) ≡ Good
+scan_3 : scan (112 ∷ 56 ∷ []) ≡ Ok tt
 unfolding scan scan_from sign_of closes named teen
 scan_3 = refl
 
-scan_3a : scan (112 ∷ 49 ∷ 53 ∷ []) ≡ Good
+scan_3a : scan (112 ∷ 49 ∷ 53 ∷ []) ≡ Ok tt
 unfolding scan scan_from sign_of closes named teen
 scan_3a = refl
 
-scan_3b : scan (112 ∷ 49 ∷ 54 ∷ []) ≡ Bad 2
+scan_3b : scan (112 ∷ 49 ∷ 54 ∷ []) ≡ Err 2
 unfolding scan scan_from sign_of closes named teen
 scan_3b = refl
 
-scan_3c : scan (112 ∷ 48 ∷ 49 ∷ []) ≡ Bad 2
+scan_3c : scan (112 ∷ 48 ∷ 49 ∷ []) ≡ Err 2
 unfolding scan scan_from sign_of closes named teen
 scan_3c = refl
 
-scan_3d : scan (112 ∷ 49 ∷ 32 ∷ 48 ∷ []) ≡ Bad 3
+scan_3d : scan (112 ∷ 49 ∷ 32 ∷ 48 ∷ []) ≡ Err 3
 unfolding scan scan_from sign_of closes named teen
 scan_3d = refl
 
-scan_3e : scan (112 ∷ []) ≡ Bad 1
+scan_3e : scan (112 ∷ []) ≡ Err 1
 unfolding scan scan_from sign_of closes named teen
 scan_3e = refl
 
-scan_3f : scan (112 ∷ 32 ∷ 49 ∷ []) ≡ Bad 1
+scan_3f : scan (112 ∷ 32 ∷ 49 ∷ []) ≡ Err 1
 unfolding scan scan_from sign_of closes named teen
 scan_3f = refl
 
 -- `p0-`
-scan_4 : scan (112 ∷ 48 ∷ 45 ∷ []) ≡ Bad 3
+scan_4 : scan (112 ∷ 48 ∷ 45 ∷ []) ≡ Err 3
 unfolding scan scan_from sign_of closes named teen
 scan_4 = refl
 
 -- `((p0)`
-scan_5 : scan (40 ∷ 40 ∷ 112 ∷ 48 ∷ 41 ∷ []) ≡ Bad 5
+scan_5 : scan (40 ∷ 40 ∷ 112 ∷ 48 ∷ 41 ∷ []) ≡ Err 5
 unfolding scan scan_from sign_of closes named teen
 scan_5 = refl
 
 -- `G(p0->Fp1)`
-scan_6 : scan (71 ∷ 40 ∷ 112 ∷ 48 ∷ 45 ∷ 62 ∷ 70 ∷ 112 ∷ 49 ∷ 41 ∷ []) ≡ Good
+scan_6 : scan (71 ∷ 40 ∷ 112 ∷ 48 ∷ 45 ∷ 62 ∷ 70 ∷ 112 ∷ 49 ∷ 41 ∷ []) ≡ Ok tt
 unfolding scan scan_from sign_of closes named teen
 scan_6 = refl
 
 -- ` ( p0 ) `
-scan_7 : scan (32 ∷ 40 ∷ 32 ∷ 112 ∷ 48 ∷ 32 ∷ 41 ∷ 32 ∷ []) ≡ Good
+scan_7 : scan (32 ∷ 40 ∷ 32 ∷ 112 ∷ 48 ∷ 32 ∷ 41 ∷ 32 ∷ []) ≡ Ok tt
 unfolding scan scan_from sign_of closes named teen
 scan_7 = refl
 
 -- `p0 ->p1`
-scan_8 : scan (112 ∷ 48 ∷ 32 ∷ 45 ∷ 62 ∷ 112 ∷ 49 ∷ []) ≡ Good
+scan_8 : scan (112 ∷ 48 ∷ 32 ∷ 45 ∷ 62 ∷ 112 ∷ 49 ∷ []) ≡ Ok tt
 unfolding scan scan_from sign_of closes named teen
 scan_8 = refl
 
 -- `p0- >p1`
-scan_9 : scan (112 ∷ 48 ∷ 45 ∷ 32 ∷ 62 ∷ 112 ∷ 49 ∷ []) ≡ Bad 3
+scan_9 : scan (112 ∷ 48 ∷ 45 ∷ 32 ∷ 62 ∷ 112 ∷ 49 ∷ []) ≡ Err 3
 unfolding scan scan_from sign_of closes named teen
 scan_9 = refl
 
 -- `p0)`
-scan_10 : scan (112 ∷ 48 ∷ 41 ∷ []) ≡ Bad 2
+scan_10 : scan (112 ∷ 48 ∷ 41 ∷ []) ≡ Err 2
 unfolding scan scan_from sign_of closes named teen
 scan_10 = refl
 

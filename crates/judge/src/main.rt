@@ -7,7 +7,7 @@ use files::File;
 use neighbour::{Fault, Judged, judge_report};
 use program::said::{put, refuse};
 use report_text::states::states_at;
-use report_text::{ReportParts, ReportRead, read_report};
+use report_text::{ReportParts, read_report};
 use shown::Failing;
 use std::rt::Files;
 
@@ -65,8 +65,8 @@ fn without_end(text: &[u8]) -> &[u8] {
 // The form of report.txt.
 fn with_text<P: Print>(to: &P, plant: &[u8], rule: &[u8], log: &[u8], text: &[u8]) {
     match read_report(text) {
-        ReportRead::Bad(place) => refuse_report(to, place),
-        ReportRead::Report(parts) => with_report(to, plant, rule, log, text, parts),
+        Err(place) => refuse_report(to, place),
+        Ok(parts) => with_report(to, plant, rule, log, text, parts),
     }
 }
 

@@ -1,5 +1,5 @@
 -- What a report is answered, by what was found of the runs and by where the log ends.
-use Rattle.std.specs.Prelude.{Ok, Err}
+use Rattle.std.specs.Prelude.{Ok, Err, Result}
 use Prim.Native.Nat.{ℕ}
 use mathlib.Core.Path.{◌≡◌, refl, sym, ap, ◌∙◌}
 use mathlib.Core.Bool.{Bool, true, false, not}
@@ -18,8 +18,7 @@ use Rattle.controller.specs.declared.LogAnswer.{LogAnswer}
 use Rattle.controller.specs.declared.LogEnd.{LogEnd}
 use Rattle.controller.specs.Whole.{end_of}
 use Rattle.node_value.specs.Turns.{passed, failed}
-use Rattle.shown.specs.declared.Found.{Found}
-use Rattle.shown.specs.declared.Found.TheVariants.{Correct}
+use Rattle.shown.specs.declared.Failing.{Failing}
 use Rattle.shown.specs.Positions.{mark_of}
 use Rattle.shown.specs.Tests.{checked_of}
 use Rattle.neighbour.specs.declared.sent.ShownRun.{ShownRun}
@@ -33,16 +32,16 @@ use Rattle.neighbour.specs.Judged.{decided_of, looked_at, report_judged, judged_
 
 module _ (p : Plant) (fair label next : List ℕ) (rule : Rule) (event : ℕ → Event) (n : ℕ) where
   module _ (mark claim : ℕ) (keeps : Bool) (run : ShownRun) {b : Bool} (e : b ≡ needs_of claim keeps) where
-    pub not_needed : not b ≡ true → Correct ≡ looked_at p fair label next rule event n mark claim keeps run
+    pub not_needed : not b ≡ true → (Ok tt) ≡ looked_at p fair label next rule event n mark claim keeps run
     unfolding looked_at
     not_needed f = rw (failed b (needs_of claim keeps) e f) refl
 
-    pub needed : not b ≡ false → {r : Found} → r ≡ checked_of p fair label next rule event n mark keeps (take run.len run.states) run.stem
+    pub needed : not b ≡ false → {r : Result (Unit {0}) Failing} → r ≡ checked_of p fair label next rule event n mark keeps (take run.len run.states) run.stem
         → r ≡ looked_at p fair label next rule event n mark claim keeps run
     unfolding looked_at
     needed f is = rw (passed b (needs_of claim keeps) e f) is
 
-  pub both_by : (v : Verdict) (r : Report) {mark : ℕ} {first second : Found} {j : Judged} → mark ≡ mark_of event n
+  pub both_by : (v : Verdict) (r : Report) {mark : ℕ} {first second : Result (Unit {0}) Failing} {j : Judged} → mark ≡ mark_of event n
       → first ≡ looked_at p fair label next rule event n mark r.claim true r.keeping → second ≡ looked_at p fair label next rule event n mark r.claim false r.breaking
       → j ≡ decided_of r.claim v first second → j ≡ report_judged p fair label next rule event n v r
   unfolding report_judged

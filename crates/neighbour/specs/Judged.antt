@@ -1,6 +1,6 @@
 -- WHAT A REPORT IS ANSWERED: the log is followed to its end. Behind the last event the claim and the lengths are checked, then the needed runs are, and then the claim is
 -- compared with the verdict.
-use Rattle.std.specs.Prelude.{ℕ, Bool, true, false, ◌||◌, cond, List, eqb, take, Ok, Err}
+use Rattle.std.specs.Prelude.{ℕ, Bool, true, false, ◌||◌, cond, List, eqb, take, Ok, Err, Result}
 use Rattle.answers.specs.declared.Verdict.{Verdict}
 use Rattle.answers.specs.Results.{Outcome}
 use Rattle.answers.specs.Paper.{number_of}
@@ -17,8 +17,7 @@ use Rattle.controller.specs.declared.LogAnswer.{LogAnswer}
 use Rattle.controller.specs.declared.LogAnswer.TheVariants as Logs
 use Rattle.controller.specs.declared.LogEnd.{LogEnd}
 use Rattle.controller.specs.Whole.{end_of}
-use Rattle.shown.specs.declared.Found.{Found}
-use Rattle.shown.specs.declared.Found.TheVariants.{Correct, Fails}
+use Rattle.shown.specs.declared.Failing.{Failing}
 use Rattle.shown.specs.Positions.{mark_of}
 use Rattle.shown.specs.Tests.{checked_of}
 use Rattle.neighbour.specs.declared.sent.ShownRun.{ShownRun}
@@ -34,13 +33,13 @@ unfoldable pub confirmed_by : ℕ → Verdict → Bool
 confirmed_by claim v = eqb claim 0 || eqb claim (number_of v)
 
 -- behind a run that keeps the rule and is right, or not needed
-abbrev pub decided_second : ℕ → Verdict → Found → Judged
-decided_second claim v (Fails x) = WrongRun (record { keeps = false; failing = x })
-decided_second claim v Correct = cond (confirmed_by claim v) Accepted WrongVerdict
+abbrev pub decided_second : ℕ → Verdict → Result (Unit {0}) Failing → Judged
+decided_second claim v (Err x) = WrongRun (record { keeps = false; failing = x })
+decided_second claim v (Ok _) = cond (confirmed_by claim v) Accepted WrongVerdict
 
-abbrev pub decided_of : ℕ → Verdict → Found → Found → Judged
-decided_of claim v (Fails x) second = WrongRun (record { keeps = true; failing = x })
-decided_of claim v Correct second = decided_second claim v second
+abbrev pub decided_of : ℕ → Verdict → Result (Unit {0}) Failing → Result (Unit {0}) Failing → Judged
+decided_of claim v (Err x) second = WrongRun (record { keeps = true; failing = x })
+decided_of claim v (Ok _) second = decided_second claim v second
 
 -- a check, and what comes behind it
 abbrev pub unless_refused : Outcome → Judged → Judged
@@ -51,8 +50,8 @@ unless_refused (Err r) j = Refused r
 
 module _ (p : Plant) (fair label next : List ℕ) (rule : Rule) (event : ℕ → Event) (n : ℕ) where
   -- what the check finds of a run of the kind; nothing where the claim does not need it
-  unfoldable pub looked_at : ℕ → ℕ → Bool → ShownRun → Found
-  looked_at mark claim keeps run = cond (needs_of claim keeps) (checked_of p fair label next rule event n mark keeps (take run.len run.states) run.stem) Correct
+  unfoldable pub looked_at : ℕ → ℕ → Bool → ShownRun → Result (Unit {0}) Failing
+  looked_at mark claim keeps run = cond (needs_of claim keeps) (checked_of p fair label next rule event n mark keeps (take run.len run.states) run.stem) (Ok tt)
 
   -- both runs, judged at the last restart, and then the verdict
   unfoldable pub report_judged : Verdict → Report → Judged

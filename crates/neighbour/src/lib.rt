@@ -17,7 +17,7 @@ use controller::{LogAnswer, Stop, to_end};
 use plant::{Plant, Table};
 use sent::{Report, ShownRun, check_report, needs};
 use shown::positions::mark_of;
-use shown::{Failing, Found, check_run};
+use shown::{Failing, check_run};
 use sides::Monitor;
 use syntax::Rule;
 
@@ -167,13 +167,13 @@ fn look_at(
     claim: u8,
     keeps: bool,
     run: ShownRun,
-) -> Found
+) -> Result<(), Failing>
     requires { (rule.len ≤ 32) × RunSized run }
     ensures { result ≡ looked_at plant fair.now label.now next.now rule
         (event_at (width_of plant.props) log.now) (whole_lines (width_of plant.props) log.now) mark claim keeps run }
 {
     if !needs(claim, keeps) {
-        return Found::Correct;
+        return Ok(());
     }
     check_run(
         plant,
@@ -198,27 +198,32 @@ fn confirms(claim: u8, verdict: Verdict) -> bool
 }
 
 // By what was found of the two runs.
-fn decide(claim: u8, verdict: Verdict, first: Found, second: Found) -> Judged
+fn decide(
+    claim: u8,
+    verdict: Verdict,
+    first: Result<(), Failing>,
+    second: Result<(), Failing>,
+) -> Judged
     ensures { result ≡ decided_of claim verdict first second }
 {
     match first {
-        Found::Fails(failing) => Judged::WrongRun(Fault {
+        Err(failing) => Judged::WrongRun(Fault {
             keeps: true,
             failing,
         }),
-        Found::Correct => decide_second(claim, verdict, second),
+        Ok(()) => decide_second(claim, verdict, second),
     }
 }
 
-fn decide_second(claim: u8, verdict: Verdict, second: Found) -> Judged
+fn decide_second(claim: u8, verdict: Verdict, second: Result<(), Failing>) -> Judged
     ensures { result ≡ decided_second claim verdict second }
 {
     match second {
-        Found::Fails(failing) => Judged::WrongRun(Fault {
+        Err(failing) => Judged::WrongRun(Fault {
             keeps: false,
             failing,
         }),
-        Found::Correct => {
+        Ok(()) => {
             if confirms(claim, verdict) {
                 return Judged::Accepted;
             }

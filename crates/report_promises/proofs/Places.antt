@@ -1,12 +1,10 @@
 -- The claim of ReportForm proved: what is a report is read as one, and any other text is refused where it stops to begin one.
-use Rattle.std.specs.Prelude.{ℕ, suc, ◌+◌, ◌≤◌, ◌<◌, ◌≡◌, refl, Bool, true, false, ◌&&◌, List, [], ◌∷◌, ◌++◌, eqb, length, get_or, take, drop}
+use Rattle.std.specs.Prelude.{ℕ, suc, ◌+◌, ◌≤◌, ◌<◌, ◌≡◌, refl, Bool, true, false, ◌&&◌, List, [], ◌∷◌, ◌++◌, eqb, length, get_or, take, drop, Result, Ok, Err}
 use Rattle.std.proofs.Common.{arith, sym, ap, subst, ◌∙◌, append_assoc, append-nil, length-append, length-drop, take-append-drop, length-take-le, eq-eqb, ne_eqb, eqb-true}
 use Rattle.std.proofs.lemmas.Bool.{false≢true}
 use Rattle.std.proofs.Math.Seq.{take-append_seam}
 use Rattle.report_text.specs.declared.Cursor.{Cursor}
 use Rattle.report_text.specs.declared.ReportParts.{ReportParts}
-use Rattle.report_text.specs.declared.ReportRead.{ReportRead}
-use Rattle.report_text.specs.declared.ReportRead.TheVariants.{Report, Bad}
 use Rattle.report_text.specs.Form.{cursor, claim_key, verdict_word, claimed, stem_key, loop_key, lf, refused_line, run_of, breaks_key, parts_of, report_read}
 use Rattle.report_text.proofs.Whole.{read_is}
 use Rattle.report_promises.specs.Walk.{past, kind_key, Through, run_through, no_run_through, left_out_through, claim_through}
@@ -44,7 +42,7 @@ another_letter (run stem turn) = refl
 another_letter no_run = refl
 another_letter left_out = refl
 
-found : (s : List ℕ) → IsReport s → (p : ReportParts) × (report_read s ≡ Report p)
+found : (s : List ℕ) → IsReport s → (p : ReportParts) × (report_read s ≡ Ok p)
 found s x = (
   parts_of (claimed x.claim (cursor true c)) K.read B.read,
   sym (read_is s (claimed x.claim (cursor true c)) K.read B.read true (claim_through s x.claim x.few lines x.is) K.is
@@ -77,17 +75,17 @@ found s x = (
 
 -- ---- any text
 
-is_bad : ReportRead → Bool
-is_bad (Report p) = false
-is_bad (Bad i) = true
+is_bad : Result ReportParts ℕ → Bool
+is_bad (Ok p) = false
+is_bad (Err i) = true
 
 -- a report is not refused
-not_both : (s : List ℕ) (i : ℕ) → report_read s ≡ Bad i → IsReport s → ⊥
+not_both : (s : List ℕ) (i : ℕ) → report_read s ≡ Err i → IsReport s → ⊥
 unfolding is_bad
 not_both s i e x = let (p, is) = found s x in false≢true (ap is_bad (sym is ∙ e))
 
 -- the answer, by where the reader ends
-bad_by : (s : List ℕ) (ok : Bool) (i : ℕ) → behind_all s ≡ cursor ok i → (ok && eqb i (length s)) ≡ false → report_read s ≡ Bad i
+bad_by : (s : List ℕ) (ok : Bool) (i : ℕ) → behind_all s ≡ cursor ok i → (ok && eqb i (length s)) ≡ false → report_read s ≡ Err i
 unfolding report_read
 bad_by s ok i e no_end = rw (e, no_end) refl
 

@@ -1,9 +1,7 @@
 -- WHAT THE FORM OF REPORT.TXT IS, and where a text that is not of it is refused: at the length of its longest beginning that can be gone on with to a report. There is no proof on
 -- this page.
-use Rattle.std.specs.Prelude.{ℕ, suc, ◌≤◌, ◌<◌, ◌≡◌, Bool, true, false, List, [], ◌++◌, length, take}
+use Rattle.std.specs.Prelude.{ℕ, suc, ◌≤◌, ◌<◌, ◌≡◌, Bool, true, false, List, [], ◌++◌, length, take, Result, Ok, Err}
 use Rattle.report_text.specs.declared.ReportParts.{ReportParts}
-use Rattle.report_text.specs.declared.ReportRead.{ReportRead}
-use Rattle.report_text.specs.declared.ReportRead.TheVariants.{Report, Bad}
 use Rattle.report_text.specs.Form.{claim_key, verdict_word, stem_key, loop_key, lf, refused_line, report_read}
 use Rattle.report_promises.specs.Walk.{IsList, kind_key}
 
@@ -47,9 +45,9 @@ pub record StopsAt (s : List ℕ) (i : ℕ) : Type 0 where
   pub stops : i < length s → Begins (take (suc i) s) → ⊥
 
 -- what the reader answers: a report for a report, and else where the text stops to begin one
-pub data ReadRight (s : List ℕ) : ReportRead → Type 0 where
-  is_report : {p : ReportParts} → IsReport s → ReadRight s (Report p)
-  refused : {i : ℕ} → StopsAt s i → ReadRight s (Bad i)
+pub data ReadRight (s : List ℕ) : Result ReportParts ℕ → Type 0 where
+  is_report : {p : ReportParts} → IsReport s → ReadRight s (Ok p)
+  refused : {i : ℕ} → StopsAt s i → ReadRight s (Err i)
 
 abbrev pub PlaceRight : Type 0
 PlaceRight = (s : List ℕ) → ReadRight s (report_read s)

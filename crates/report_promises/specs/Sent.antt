@@ -1,12 +1,11 @@
 -- A REPORT AS A TEXT, report.txt: what a neighbour writes, in the words of our own lines (report/specs/Text), and what it says. There is no proof on this page.
-use Rattle.std.specs.Prelude.{ℕ, ◌≤◌, ◌<◌, ◌≡◌, Bool, true, false, List, [], ◌++◌, length, get_or}
+use Rattle.std.specs.Prelude.{ℕ, ◌≤◌, ◌<◌, ◌≡◌, Bool, true, false, List, [], ◌++◌, length, get_or, Ok}
 use Rattle.answers.specs.declared.Verdict.{Verdict}
 use Rattle.answers.specs.declared.Kind.TheVariants.{NoPair}
 use Rattle.answers.specs.Paper.{number_of, refused_at}
 use Rattle.report.specs.Text.{word, lf, run_text, no_run_text}
 use Rattle.report_text.specs.declared.RunParts.{RunParts}
 use Rattle.report_text.specs.declared.ReportParts.{ReportParts}
-use Rattle.report_text.specs.declared.ReportRead.TheVariants.{Report}
 use Rattle.report_text.specs.Form.{claim_key, report_read}
 use Rattle.report_text.specs.States.{part_of, states_of}
 
@@ -49,7 +48,7 @@ pub record Shows (s : List ℕ) (r : RunParts) (line : Line) : Type 0 where
 -- the text is read as this report
 pub record ReadAs (s : List ℕ) (v : Verdict) (keeping breaking : Line) : Type 0 where
   pub parts : ReportParts
-  pub is : report_read s ≡ Report parts
+  pub is : report_read s ≡ Ok parts
   pub claim : parts.claim ≡ number_of v
   pub keeps : Shows s parts.keeping keeping
   pub breaks : Shows s parts.breaking breaking

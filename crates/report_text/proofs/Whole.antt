@@ -1,4 +1,5 @@
 -- The calls of a reader put together as the definitions have them.
+use Rattle.std.specs.Prelude.{Ok, Err}
 use Prim.Native.Nat.{ℕ}
 use mathlib.Core.Bool.{Bool, true, ◌&&◌, cond}
 use mathlib.Core.Path.{◌≡◌, refl}
@@ -8,7 +9,6 @@ use lib.ListN.{length, get_or}
 use Rattle.report_text.specs.declared.Cursor.{Cursor}
 use Rattle.report_text.specs.declared.Claimed.{Claimed}
 use Rattle.report_text.specs.declared.RunRead.{RunRead}
-use Rattle.report_text.specs.declared.ReportRead.TheVariants.{Report, Bad}
 use Rattle.report_text.specs.Form.{cursor, word_from, list_of, claim_key, claim_by, verdict_from, claimed, claim_of, part, run_read, stem_key, loop_key, lf, refused_line, shown_run, missing, run_line, run_of, keeps_key, breaks_key, parts_of, report_read}
 
 -- the claim
@@ -37,6 +37,6 @@ run_is s c kind x y t is_x is_y is-t = rw (← is-t, is_x, is_y) refl
 
 -- the whole text
 pub read_is : (s : List ℕ) (c : Claimed) (k b : RunRead) (t : Bool) → c ≡ claim_of s → k ≡ run_of s c.next keeps_key → b ≡ run_of s k.next breaks_key
-    → (b.next.ok && eqb b.next.at (length s)) ≡ t → cond t (Report (parts_of c k b)) (Bad b.next.at) ≡ report_read s
+    → (b.next.ok && eqb b.next.at (length s)) ≡ t → cond t (Ok (parts_of c k b)) (Err b.next.at) ≡ report_read s
 unfolding report_read
 read_is s c k b t is_c is-k is_b is-t = rw (← is-t, is_b, is-k, is_c) refl

@@ -4,14 +4,12 @@
 --     keeps stem=LIST loop=LIST      or `keeps refused=13 place=0`, or no such line
 --     breaks stem=LIST loop=LIST     or `breaks refused=13 place=0`, or no such line
 -- LIST is states in decimal with commas between them, or nothing. Each line ends with LF.
-use Rattle.std.specs.Prelude.{ℕ, ◌+◌, Bool, true, false, ◌&&◌, ◌||◌, cond, List, [], ◌∷◌, eqb, ltb, length, get_or, drop}
+use Rattle.std.specs.Prelude.{ℕ, ◌+◌, Bool, true, false, ◌&&◌, ◌||◌, cond, List, [], ◌∷◌, eqb, ltb, length, get_or, drop, Result, Ok, Err}
 use Rattle.report_text.specs.declared.Cursor.{Cursor}
 use Rattle.report_text.specs.declared.Part.{Part}
 use Rattle.report_text.specs.declared.Claimed.{Claimed}
 use Rattle.report_text.specs.declared.RunRead.{RunRead}
 use Rattle.report_text.specs.declared.ReportParts.{ReportParts}
-use Rattle.report_text.specs.declared.ReportRead.{ReportRead}
-use Rattle.report_text.specs.declared.ReportRead.TheVariants.{Report, Bad}
 
 -- ---- cursors
 
@@ -129,9 +127,9 @@ breaks_key = 98 ∷ 114 ∷ 101 ∷ 97 ∷ 107 ∷ 115 ∷ 32 ∷ []
 abbrev pub parts_of : Claimed → RunRead → RunRead → ReportParts
 parts_of c k b = record { claim = c.claim; keeping = k.run; breaking = b.run }
 
-unfoldable pub report_read : List ℕ → ReportRead
+unfoldable pub report_read : List ℕ → Result ReportParts ℕ
 report_read s =
     let c = claim_of s in
     let k = run_of s c.next keeps_key in
     let b = run_of s k.next breaks_key in
-    cond (b.next.ok && eqb b.next.at (length s)) (Report (parts_of c k b)) (Bad b.next.at)
+    cond (b.next.ok && eqb b.next.at (length s)) (Ok (parts_of c k b)) (Err b.next.at)

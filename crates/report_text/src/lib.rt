@@ -79,13 +79,6 @@ pub struct ReportParts {
     pub breaking: RunParts,
 }
 
-// The text is a report, or the first byte that can't be right; the length where it only stops too soon.
-#[derive(Clone, Copy)]
-pub enum ReportRead {
-    Report(ReportParts),
-    Bad(usize),
-}
-
 // One known byte.
 #[tactic(auto, unfolding(crate::specs::Form::byte_taken))]
 fn step(text: &[u8], c: Cursor, b: u8) -> Cursor
@@ -241,7 +234,7 @@ fn run(text: &[u8], c: Cursor, kind: &[u8]) -> RunRead
 }
 
 // What a text says, if it is a report.
-pub fn read_report(text: &[u8]) -> ReportRead
+pub fn read_report(text: &[u8]) -> Result<ReportParts, usize>
     ensures { result ≡ report_read text.now }
 {
     let claimed = claim(text);
@@ -249,11 +242,11 @@ pub fn read_report(text: &[u8]) -> ReportRead
     let breaks = run(text, keeps.next, b"breaks ");
     let end = breaks.next;
     if end.ok & (end.at == text.len()) {
-        return ReportRead::Report(ReportParts {
+        return Ok(ReportParts {
             claim: claimed.claim,
             keeping: keeps.run,
             breaking: breaks.run,
         });
     }
-    ReportRead::Bad(end.at)
+    Err(end.at)
 }

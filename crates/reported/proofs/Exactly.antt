@@ -2,7 +2,7 @@
 use mathlib.Core.Logic.Iff
 use Prim.Native.Nat.{ℕ, zero, suc, ◌+◌, ◌≤◌, ◌<◌, zero-le}
 use native.Mathlib.Omega.{arith}
-use Rattle.std.specs.Prelude.{◌≡◌, ◌↔◌, Bool, ◌||◌, cond, List, ◌++◌, ltb, get_or, drop, replicate, Ok, Err}
+use Rattle.std.specs.Prelude.{◌≡◌, ◌↔◌, Bool, ◌||◌, cond, List, ◌++◌, ltb, get_or, drop, replicate, Ok, Err, Result}
 use Rattle.std.proofs.Math.Path.{refl}
 use Rattle.std.proofs.Common.{sym, ap, subst, ◌∙◌, length-append}
 use Rattle.std.proofs.Math.Bool.{true, false, So}
@@ -30,8 +30,7 @@ use Rattle.event_log.specs.Log.{nothing}
 use Rattle.event_log.specs.Promises.{AllWritable}
 use Rattle.watching.specs.Filled.{filled, InTurnAt}
 use Rattle.around.specs.Along.{lasso_of}
-use Rattle.shown.specs.declared.Found.{Found}
-use Rattle.shown.specs.declared.Found.TheVariants.{Correct, Fails}
+use Rattle.shown.specs.declared.Failing.{Failing}
 use Rattle.shown.specs.Positions.{mark_of}
 use Rattle.shown.specs.Shown.{Starts, MovesOn, FairOn, AgreesAll, FirstFailing}
 use Rattle.shown.specs.Tests.{checked_of}
@@ -55,16 +54,16 @@ accepts WrongVerdict = false
 accepts (Stopped s) = false
 accepts (Refused r) = false
 
-abbrev is_correct : Found → Bool
-is_correct Correct = true
-is_correct (Fails x) = false
+abbrev is_correct : Result (Unit {0}) Failing → Bool
+is_correct (Ok _) = true
+is_correct (Err x) = false
 
-decided_exactly : (claim : ℕ) (v : Verdict) (x y : Found) → (decided_of claim v x y ≡ Accepted) ↔ ((x ≡ Correct) × (y ≡ Correct) × So (confirmed_by claim v))
-decided_exactly claim v (Fails x) y = (λ e. absurd (false≢true (ap accepts e)), λ h. absurd (false≢true (ap is_correct h.0)))
-decided_exactly claim v Correct (Fails y) = (λ e. absurd (false≢true (ap accepts e)), λ h. absurd (false≢true (ap is_correct h.1)))
-decided_exactly claim v Correct Correct = by (confirmed_by claim v)
+decided_exactly : (claim : ℕ) (v : Verdict) (x y : Result (Unit {0}) Failing) → (decided_of claim v x y ≡ Accepted) ↔ ((x ≡ Ok tt) × (y ≡ Ok tt) × So (confirmed_by claim v))
+decided_exactly claim v (Err x) y = (λ e. absurd (false≢true (ap accepts e)), λ h. absurd (false≢true (ap is_correct h.0)))
+decided_exactly claim v (Ok _) (Err y) = (λ e. absurd (false≢true (ap accepts e)), λ h. absurd (false≢true (ap is_correct h.1)))
+decided_exactly claim v (Ok _) (Ok _) = by (confirmed_by claim v)
   where
-    by : (b : Bool) → (cond b Accepted WrongVerdict ≡ Accepted) ↔ ((Correct ≡ Correct) × (Correct ≡ Correct) × So b)
+    by : (b : Bool) → (cond b Accepted WrongVerdict ≡ Accepted) ↔ (((Ok tt) ≡ Ok tt) × ((Ok tt) ≡ Ok tt) × So b)
     by true = (λ e. (refl, refl, refl), λ h. refl)
     by false = (λ e. absurd (false≢true (ap accepts e)), λ h. absurd (false≢true h.2))
 
@@ -112,14 +111,14 @@ module _ (p : Plant) (fair label next : List ℕ) (rule : Rule) (f : Formula) (i
   abbrev n : ℕ
   n = length es
 
-  abbrev looked : ℕ → Bool → ShownRun → Found
+  abbrev looked : ℕ → Bool → ShownRun → Result (Unit {0}) Failing
   looked claim b r = looked_at p fair label next rule event n (mark_of event n) claim b r
 
   -- the check finds nothing exactly if the run is of the kind
   run_exactly : (b : Bool) (stem turn : List ℕ) → length stem + length turn ≤ 4096
-      → (checked_of p fair label next rule event n (mark_of event n) b (stem ++ turn) (length stem) ≡ Correct) ↔ Chosen T f b h (lasso stem turn)
+      → (checked_of p fair label next rule event n (mark_of event n) b (stem ++ turn) (length stem) ≡ Ok tt) ↔ Chosen T f b h (lasso stem turn)
   run_exactly b stem turn few =
-      subst (λ (x : Lasso). (checked_of p fair label next rule event n (mark_of event n) b states s ≡ Correct) ↔ Chosen T f b h x) whole (Iff.trans first.correct (to, from))
+      subst (λ (x : Lasso). (checked_of p fair label next rule event n (mark_of event n) b states s ≡ Ok tt) ↔ Chosen T f b h x) whole (Iff.trans first.correct (to, from))
     where
       states : List ℕ
       states = stem ++ turn
@@ -155,22 +154,22 @@ module _ (p : Plant) (fair label next : List ℕ) (rule : Rule) (f : Formula) (i
 
   -- so it is with a run that the claim needs and that is short enough
   looked_exactly : (claim : ℕ) (b : Bool) (stem turn : List ℕ) → needs_of claim b ≡ true → ltb 4096 (length stem + length turn) ≡ false
-      → (looked claim b (shown_of stem turn) ≡ Correct) ↔ Chosen T f b h (lasso stem turn)
+      → (looked claim b (shown_of stem turn) ≡ Ok tt) ↔ Chosen T f b h (lasso stem turn)
   unfolding looked_at shown_of
   looked_exactly claim b stem turn need fits =
       rw (need, fits, take-append_seam (stem ++ turn) (drop (length (stem ++ turn)) (replicate 4096 0))) (run_exactly b stem turn (ltb-false 4096 (length stem + length turn) fits))
 
   -- any other is not looked at
-  pub looked_other : (claim : ℕ) (b : Bool) (r : ShownRun) → needs_of claim b ≡ false → looked claim b r ≡ Correct
+  pub looked_other : (claim : ℕ) (b : Bool) (r : ShownRun) → needs_of claim b ≡ false → looked claim b r ≡ Ok tt
   unfolding looked_at
   looked_other claim b r need = rw need refl
 
-  pub is_shown_lem : (claim : ℕ) (b : Bool) (stem turn : List ℕ) → needs_of claim b ≡ true → (shown_of stem turn).long ≡ false → looked claim b (shown_of stem turn) ≡ Correct → IsShown T f h b stem turn
+  pub is_shown_lem : (claim : ℕ) (b : Bool) (stem turn : List ℕ) → needs_of claim b ≡ true → (shown_of stem turn).long ≡ false → looked claim b (shown_of stem turn) ≡ Ok tt → IsShown T f h b stem turn
   is_shown_lem claim b stem turn need fits e =
       let low = sym (long_is stem turn) ∙ fits in
       (ltb-false 4096 (length stem + length turn) low, (looked_exactly claim b stem turn need low).0 e)
 
-  pub shown_is : (claim : ℕ) (b : Bool) (stem turn : List ℕ) → needs_of claim b ≡ true → IsShown T f h b stem turn → ((shown_of stem turn).long ≡ false) × (looked claim b (shown_of stem turn) ≡ Correct)
+  pub shown_is : (claim : ℕ) (b : Bool) (stem turn : List ℕ) → needs_of claim b ≡ true → IsShown T f h b stem turn → ((shown_of stem turn).long ≡ false) × (looked claim b (shown_of stem turn) ≡ Ok tt)
   shown_is claim b stem turn need (few, c) =
       let low = le-ltb 4096 (length stem + length turn) few in
       (long_is stem turn ∙ low, (looked_exactly claim b stem turn need low).1 c)
@@ -189,7 +188,7 @@ module _ (p : Plant) (fair label next : List ℕ) (rule : Rule) (f : Formula) (i
     answer claim = judged_at p fair label next rule event n last (report_of claim keep_stem keep_loop break_stem break_loop)
 
     accepted_by : (claim : ℕ) → (answer claim ≡ Accepted)
-        ↔ (((claim ≤ 3) × (too_long claim keeping.long breaking.long ≡ false)) × ((looked claim true keeping ≡ Correct) × (looked claim false breaking ≡ Correct) × So (confirmed_by claim v)))
+        ↔ (((claim ≤ 3) × (too_long claim keeping.long breaking.long ≡ false)) × ((looked claim true keeping ≡ Ok tt) × (looked claim false breaking ≡ Ok tt) × So (confirmed_by claim v)))
     unfolding judged_at report_judged
     accepted_by claim = Iff.trans (behind_check (report_checked claim keeping.long breaking.long) (decided_of claim v (looked claim true keeping) (looked claim false breaking))) (
       λ (a, b). ((checked_exactly claim keeping.long breaking.long).0 a, (decided_exactly claim v (looked claim true keeping) (looked claim false breaking)).0 b),

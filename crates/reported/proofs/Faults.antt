@@ -2,7 +2,7 @@
 use mathlib.Core.Logic.Iff
 use Prim.Native.Nat.{ℕ, zero, suc, ◌+◌, ◌≤◌, ◌<◌, zero-le}
 use native.Mathlib.Omega.{arith}
-use Rattle.std.specs.Prelude.{◌≡◌, ◌↔◌, ◌⊎◌, Bool, ◌||◌, cond, List, ◌++◌, eqb, get_or, drop, replicate, Ok, Err}
+use Rattle.std.specs.Prelude.{◌≡◌, ◌↔◌, ◌⊎◌, Bool, ◌||◌, cond, List, ◌++◌, eqb, get_or, drop, replicate, Ok, Err, Result}
 use Rattle.std.proofs.Math.Path.{refl}
 use Rattle.std.proofs.Common.{sym, ap, subst, ◌∙◌, length-append}
 use Rattle.std.proofs.Math.Logic.{inl, inr, ⊎_elim}
@@ -32,8 +32,6 @@ use Rattle.event_log.specs.Log.{nothing}
 use Rattle.event_log.specs.Promises.{AllWritable}
 use Rattle.watching.specs.Filled.{filled, InTurnAt}
 use Rattle.around.specs.Along.{lasso_of}
-use Rattle.shown.specs.declared.Found.{Found}
-use Rattle.shown.specs.declared.Found.TheVariants.{Correct, Fails}
 use Rattle.shown.specs.declared.Failing.{Failing}
 use Rattle.shown.specs.declared.Failing.TheVariants.{Start, Moves, Fairness, Agreement, Value}
 use Rattle.shown.specs.Positions.{mark_of}
@@ -73,58 +71,58 @@ failing_of (Refused r) = Start
 other : {X : Type 0} (a b : Judged) → eqb (code a) (code b) ≡ false → a ≡ b → X
 other a b d e = absurd (eqb-false (code a) (code b) d (ap code e))
 
-found : Found → ℕ
-found Correct = 0
-found (Fails x) = 1
+found : Result (Unit {0}) Failing → ℕ
+found (Ok _) = 0
+found (Err x) = 1
 
-unlike : {X : Type 0} (x y : Found) → eqb (found x) (found y) ≡ false → x ≡ y → X
+unlike : {X : Type 0} (x y : Result (Unit {0}) Failing) → eqb (found x) (found y) ≡ false → x ≡ y → X
 unlike x y d e = absurd (eqb-false (found x) (found y) d (ap found e))
 
-failing : Found → Failing
-failing Correct = Start
-failing (Fails x) = x
+failing : Result (Unit {0}) Failing → Failing
+failing (Ok _) = Start
+failing (Err x) = x
 
 abbrev wrong : Bool → Failing → Judged
 wrong keeps x = WrongRun (record { keeps = keeps; failing = x })
 
 -- what of the two runs makes it so
-abbrev FoundWrong : Bool → Failing → Found → Found → Type 0
-FoundWrong true z x y = x ≡ Fails z
-FoundWrong false z x y = (x ≡ Correct) × (y ≡ Fails z)
+abbrev FoundWrong : Bool → Failing → Result (Unit {0}) Failing → Result (Unit {0}) Failing → Type 0
+FoundWrong true z x y = x ≡ Err z
+FoundWrong false z x y = (x ≡ Ok tt) × (y ≡ Err z)
 
-decided_wrong : (claim : ℕ) (v : Verdict) (keeps : Bool) (z : Failing) (x y : Found) → (decided_of claim v x y ≡ wrong keeps z) ↔ FoundWrong keeps z x y
+decided_wrong : (claim : ℕ) (v : Verdict) (keeps : Bool) (z : Failing) (x y : Result (Unit {0}) Failing) → (decided_of claim v x y ≡ wrong keeps z) ↔ FoundWrong keeps z x y
 unfolding code failing_of found failing
-decided_wrong claim v true z (Fails x) y = (λ e. ap Fails (ap failing_of e), λ h. ap (λ (q : Failing). wrong true q) (ap failing h))
-decided_wrong claim v true z Correct (Fails y) = (λ e. other (wrong false y) (wrong true z) refl e, λ h. unlike Correct (Fails z) refl h)
-decided_wrong claim v true z Correct Correct = (λ e. by (confirmed_by claim v) e, λ h. unlike Correct (Fails z) refl h)
+decided_wrong claim v true z (Err x) y = (λ e. ap Err (ap failing_of e), λ h. ap (λ (q : Failing). wrong true q) (ap failing h))
+decided_wrong claim v true z (Ok _) (Err y) = (λ e. other (wrong false y) (wrong true z) refl e, λ h. unlike (Ok tt) (Err z) refl h)
+decided_wrong claim v true z (Ok _) (Ok _) = (λ e. by (confirmed_by claim v) e, λ h. unlike (Ok tt) (Err z) refl h)
   where
     by : {X : Type 0} (b : Bool) → cond b Accepted WrongVerdict ≡ wrong true z → X
     by true e = other Accepted (wrong true z) refl e
     by false e = other WrongVerdict (wrong true z) refl e
-decided_wrong claim v false z (Fails x) y = (λ e. other (wrong true x) (wrong false z) refl e, λ h. unlike (Fails x) Correct refl h.0)
-decided_wrong claim v false z Correct (Fails y) = (λ e. (refl, ap Fails (ap failing_of e)), λ h. ap (λ (q : Failing). wrong false q) (ap failing h.1))
-decided_wrong claim v false z Correct Correct = (λ e. by (confirmed_by claim v) e, λ h. unlike Correct (Fails z) refl h.1)
+decided_wrong claim v false z (Err x) y = (λ e. other (wrong true x) (wrong false z) refl e, λ h. unlike (Err x) (Ok tt) refl h.0)
+decided_wrong claim v false z (Ok _) (Err y) = (λ e. (refl, ap Err (ap failing_of e)), λ h. ap (λ (q : Failing). wrong false q) (ap failing h.1))
+decided_wrong claim v false z (Ok _) (Ok _) = (λ e. by (confirmed_by claim v) e, λ h. unlike (Ok tt) (Err z) refl h.1)
   where
     by : {X : Type 0} (b : Bool) → cond b Accepted WrongVerdict ≡ wrong false z → X
     by true e = other Accepted (wrong false z) refl e
     by false e = other WrongVerdict (wrong false z) refl e
 
-decided_verdict : (claim : ℕ) (v : Verdict) (x y : Found) → (decided_of claim v x y ≡ WrongVerdict) ↔ ((x ≡ Correct) × (y ≡ Correct) × (confirmed_by claim v ≡ false))
+decided_verdict : (claim : ℕ) (v : Verdict) (x y : Result (Unit {0}) Failing) → (decided_of claim v x y ≡ WrongVerdict) ↔ ((x ≡ Ok tt) × (y ≡ Ok tt) × (confirmed_by claim v ≡ false))
 unfolding code found
-decided_verdict claim v (Fails x) y = (λ e. other (wrong true x) WrongVerdict refl e, λ h. unlike (Fails x) Correct refl h.0)
-decided_verdict claim v Correct (Fails y) = (λ e. other (wrong false y) WrongVerdict refl e, λ h. unlike (Fails y) Correct refl h.1)
-decided_verdict claim v Correct Correct = by (confirmed_by claim v)
+decided_verdict claim v (Err x) y = (λ e. other (wrong true x) WrongVerdict refl e, λ h. unlike (Err x) (Ok tt) refl h.0)
+decided_verdict claim v (Ok _) (Err y) = (λ e. other (wrong false y) WrongVerdict refl e, λ h. unlike (Err y) (Ok tt) refl h.1)
+decided_verdict claim v (Ok _) (Ok _) = by (confirmed_by claim v)
   where
-    by : (b : Bool) → (cond b Accepted WrongVerdict ≡ WrongVerdict) ↔ ((Correct ≡ Correct) × (Correct ≡ Correct) × (b ≡ false))
+    by : (b : Bool) → (cond b Accepted WrongVerdict ≡ WrongVerdict) ↔ (((Ok tt) ≡ Ok tt) × ((Ok tt) ≡ Ok tt) × (b ≡ false))
     by true = (λ e. other Accepted WrongVerdict refl e, λ h. absurd (false≢true (sym h.2)))
     by false = (λ e. (refl, refl, refl), λ h. refl)
 
 -- no refusal comes from the runs
-not_refused : {X : Type 0} (claim : ℕ) (v : Verdict) (x y : Found) (n : ℕ) → 5 ≤ n → code (decided_of claim v x y) ≡ n → X
+not_refused : {X : Type 0} (claim : ℕ) (v : Verdict) (x y : Result (Unit {0}) Failing) (n : ℕ) → 5 ≤ n → code (decided_of claim v x y) ≡ n → X
 unfolding code
-not_refused claim v (Fails x) y n l e = absurd (omega arith)
-not_refused claim v Correct (Fails y) n l e = absurd (omega arith)
-not_refused claim v Correct Correct n l e = by (confirmed_by claim v) e
+not_refused claim v (Err x) y n l e = absurd (omega arith)
+not_refused claim v (Ok _) (Err y) n l e = absurd (omega arith)
+not_refused claim v (Ok _) (Ok _) n l e = by (confirmed_by claim v) e
   where
     by : {X : Type 0} (b : Bool) → code (cond b Accepted WrongVerdict) ≡ n → X
     by true e = absurd (omega arith)
@@ -145,7 +143,7 @@ behind (Err r) j a l = (λ e. absurd (omega (arith, l, ap code e)), λ h. absurd
 
 -- ---- the first rule that a run fails
 
-firsts_with : {A B C D D' E E' : Type 0} {r : Found} → (D ↔ D') → (E ↔ E') → Firsts A B C D E r → Firsts A B C D' E' r
+firsts_with : {A B C D D' E E' : Type 0} {r : Result (Unit {0}) Failing} → (D ↔ D') → (E ↔ E') → Firsts A B C D E r → Firsts A B C D' E' r
 firsts_with g k x = record {
   correct = Iff.trans x.correct (λ (a, b, c, d, e). (a, b, c, g.0 d, k.0 e), λ (a, b, c, d, e). (a, b, c, g.1 d, k.1 e));
   start = x.start;
@@ -166,11 +164,11 @@ module _ (p : Plant) (fair label next : List ℕ) (rule : Rule) (f : Formula) (i
   abbrev n : ℕ
   n = length es
 
-  abbrev looked : ℕ → Bool → ShownRun → Found
+  abbrev looked : ℕ → Bool → ShownRun → Result (Unit {0}) Failing
   looked claim b r = looked_at p fair label next rule event n (mark_of event n) claim b r
 
   module _ (b : Bool) (stem turn : List ℕ) (few : Short stem turn) where
-    abbrev checked : Found
+    abbrev checked : Result (Unit {0}) Failing
     checked = checked_of p fair label next rule event n (mark_of event n) b (stem ++ turn) (length stem)
 
     whole : lasso_of (stem ++ turn) (length stem) ≡ lasso stem turn
@@ -198,7 +196,7 @@ module _ (p : Plant) (fair label next : List ℕ) (rule : Rule) (f : Formula) (i
         value : Kept b (Holds (labels_along T M) f (mark_of event n)) ↔ Kept b (Holds (labels_along T M) f h.mark)
         value = (subst (λ (x : ℕ). Kept b (Holds (labels_along T M) f x)) (sym mark), subst (λ (x : ℕ). Kept b (Holds (labels_along T M) f x)) mark)
 
-    fails_exactly : (z : Failing) → (checked ≡ Fails z) ↔ FailsFirst T f h b stem turn z
+    fails_exactly : (z : Failing) → (checked ≡ Err z) ↔ FailsFirst T f h b stem turn z
     fails_exactly Start = first.start
     fails_exactly Moves = first.moves
     fails_exactly Fairness = first.fairness
@@ -207,7 +205,7 @@ module _ (p : Plant) (fair label next : List ℕ) (rule : Rule) (f : Formula) (i
 
   -- so it is with a run that the claim needs and that is short enough
   looked_fails : (claim : ℕ) (b : Bool) (stem turn : List ℕ) → needs_of claim b ≡ true → Short stem turn → (z : Failing)
-      → (looked claim b (shown_of stem turn) ≡ Fails z) ↔ FailsFirst T f h b stem turn z
+      → (looked claim b (shown_of stem turn) ≡ Err z) ↔ FailsFirst T f h b stem turn z
   unfolding looked_at shown_of
   looked_fails claim b stem turn need few z =
       rw (need, le-ltb 4096 (length stem + length turn) few, take-append_seam (stem ++ turn) (drop (length (stem ++ turn)) (replicate 4096 0))) (fails_exactly b stem turn few z)
@@ -255,7 +253,7 @@ module _ (p : Plant) (fair label next : List ℕ) (rule : Rule) (f : Formula) (i
         few true = omega arith
         few false = omega arith
 
-    verdict_by : (claim : ℕ) → (answer claim ≡ WrongVerdict) ↔ (Passes claim × ((looked claim true keeping ≡ Correct) × (looked claim false breaking ≡ Correct) × (confirmed_by claim v ≡ false)))
+    verdict_by : (claim : ℕ) → (answer claim ≡ WrongVerdict) ↔ (Passes claim × ((looked claim true keeping ≡ Ok tt) × (looked claim false breaking ≡ Ok tt) × (confirmed_by claim v ≡ false)))
     unfolding judged_at report_judged code
     verdict_by claim = Iff.trans (behind (report_checked claim keeping.long breaking.long) (decided_of claim v (looked claim true keeping) (looked claim false breaking)) WrongVerdict (omega arith)) (
       λ (a, b). ((checked_exactly claim keeping.long breaking.long).0 a, (decided_verdict claim v (looked claim true keeping) (looked claim false breaking)).0 b),
@@ -263,9 +261,9 @@ module _ (p : Plant) (fair label next : List ℕ) (rule : Rule) (f : Formula) (i
     )
 
     -- a run that is not looked at fails nothing
-    no_fault : {X : Type 0} (claim : ℕ) (b : Bool) (r : ShownRun) (z : Failing) → needs_of claim b ≡ false → looked claim b r ≡ Fails z → X
+    no_fault : {X : Type 0} (claim : ℕ) (b : Bool) (r : ShownRun) (z : Failing) → needs_of claim b ≡ false → looked claim b r ≡ Err z → X
     unfolding found
-    no_fault claim b r z need e = unlike Correct (Fails z) refl (sym (looked_other p fair label next rule f is short w es event same writable turns claim b r need) ∙ e)
+    no_fault claim b r z need e = unlike (Ok tt) (Err z) refl (sym (looked_other p fair label next rule f is short w es event same writable turns claim b r need) ∙ e)
 
     -- THE FIRST WRONG RUN, AND THE FIRST RULE THAT IT FAILS
     pub wrong_run_exactly : (claim : ℕ) (keeps : Bool) (z : Failing) → (answer claim ≡ wrong keeps z) ↔ WrongRunIn T f h keep_stem keep_loop break_stem break_loop claim keeps z

@@ -1,5 +1,5 @@
 -- What reading a text alone answers, said by the grammar and the limits.
-use Rattle.std.specs.Prelude.{ℕ, ◌≤◌, ◌<◌, ◌≡◌, refl, List, Bool, true, false, T, ltb, length}
+use Rattle.std.specs.Prelude.{ℕ, ◌≤◌, ◌<◌, ◌≡◌, refl, List, Bool, true, false, T, ltb, length, Result, Ok, Err}
 use Rattle.std.proofs.Common.{sym, ap, subst, ◌∙◌, arith, ltb-true, ltb-false}
 use Rattle.answers.specs.declared.Kind.{Kind}
 use Rattle.answers.specs.Chain.{is_accepted}
@@ -7,8 +7,6 @@ use Rattle.answers.specs.declared.Kind.TheVariants.{RuleLength, RuleText, Propos
 use Rattle.meaning.specs.Formula.{Formula, size, parts}
 use Rattle.meaning.specs.Limits.{most_nodes, most_parts}
 use Rattle.syntax.specs.declared.Rule.{Rule}
-use Rattle.syntax.specs.declared.Scan.{Scan}
-use Rattle.syntax.specs.declared.Scan.TheVariants.{Good, Bad}
 use Rattle.syntax.specs.Grammar.{longest_rule, SaidBy, Refused, Unknown}
 use Rattle.syntax.specs.Postfix.{postfix}
 use Rattle.syntax.specs.Print.{Below}
@@ -42,12 +40,12 @@ module _ (f : Formula) where
   limits_fine h g = ap limited (written_rule f h) ∙ limited_fine (rule_of f) h (omega (arith, parts_held f))
 
 -- the scanner is good on a text of the grammar
-good : {f : Formula} {s : List ℕ} → SaidBy f s → scan s ≡ Good
+good : {f : Formula} {s : List ℕ} → SaidBy f s → scan s ≡ Ok tt
 good {f} {s} r = go (scan s) refl
   where
-    go : (x : Scan) → scan s ≡ x → scan s ≡ Good
-    go Good e = e
-    go (Bad k) e = absurd ((rw e at (scanned s)).outside f r)
+    go : (x : Result (Unit {0}) ℕ) → scan s ≡ x → scan s ≡ Ok tt
+    go (Ok _) e = e
+    go (Err k) e = absurd ((rw e at (scanned s)).outside f r)
 
 module _ (q : ℕ) (s : List ℕ) where
   pub reads_long : longest_rule < length s → text_read s q ≡ no_rule RuleLength longest_rule
@@ -57,9 +55,9 @@ module _ (q : ℕ) (s : List ℕ) where
     pub reads_none : (k : ℕ) → Refused s k → text_read s q ≡ no_rule RuleText k
     reads_none k r = go (scan s) refl
       where
-        go : (x : Scan) → scan s ≡ x → text_read s q ≡ no_rule RuleText k
-        go Good e = let g : (f : Formula) × SaidBy f s = rw e at (scanned s) in absurd (r.outside g.0 g.1)
-        go (Bad m) e = read_bad s q m short e ∙ ap (no_rule RuleText) (one_place s m k (rw e at (scanned s)) r)
+        go : (x : Result (Unit {0}) ℕ) → scan s ≡ x → text_read s q ≡ no_rule RuleText k
+        go (Ok _) e = let g : (f : Formula) × SaidBy f s = rw e at (scanned s) in absurd (r.outside g.0 g.1)
+        go (Err m) e = read_bad s q m short e ∙ ap (no_rule RuleText) (one_place s m k (rw e at (scanned s)) r)
 
     module _ (some : 1 ≤ q) {f : Formula} (says : SaidBy f s) where
       pub reads_unknown : (k : ℕ) → Unknown q s k → text_read s q ≡ no_rule Proposition k
@@ -103,9 +101,9 @@ judged q some s = on_length (ltb longest_rule (length s)) refl
     on_names h f says (Some k) e = unknown_name f k h says (first_unknown q some s k e)
     on_names h f says None e = on_limits h f says ((below_exactly q says).0 e) (ltb most_nodes (size f)) (ltb most_parts (parts f)) refl refl
 
-    on_scan : length s ≤ longest_rule → (x : Scan) → scan s ≡ x → Judged q s
-    on_scan h Good e = let y : (f : Formula) × SaidBy f s = rw e at (scanned s) in on_names h y.0 y.1 (unknown_at q 0 s) refl
-    on_scan h (Bad k) e = no_text k h (rw e at (scanned s))
+    on_scan : length s ≤ longest_rule → (x : Result (Unit {0}) ℕ) → scan s ≡ x → Judged q s
+    on_scan h (Ok _) e = let y : (f : Formula) × SaidBy f s = rw e at (scanned s) in on_names h y.0 y.1 (unknown_at q 0 s) refl
+    on_scan h (Err k) e = no_text k h (rw e at (scanned s))
 
     on_length : (b : Bool) → ltb longest_rule (length s) ≡ b → Judged q s
     on_length true e = too_long (ltb-true longest_rule (length s) e)

@@ -1,5 +1,5 @@
 -- What the tests of the checks' code say.
-use Rattle.std.specs.Prelude.{ℕ, ◌+◌, ◌≤◌, ◌<◌, ◌≡◌, List, false, ◌&&◌, cond, length, get_or, drop}
+use Rattle.std.specs.Prelude.{ℕ, ◌+◌, ◌≤◌, ◌<◌, ◌≡◌, List, false, ◌&&◌, cond, length, get_or, drop, Ok, Err}
 use Rattle.std.proofs.Math.Path.{sym, ap}
 use Rattle.std.proofs.Common.{◌∙◌, arith, eq-eqb, ne_eqb, lt-ltb, le-ltb}
 use Rattle.std.proofs.Math.Dec.{eqb, leb}
@@ -9,7 +9,6 @@ use Rattle.answers.specs.Results.{Outcome}
 use Rattle.plant.specs.declared.Plant.{Plant}
 use Rattle.plant.specs.Table.{table_outcome}
 use Rattle.syntax.specs.declared.Rule.{Rule}
-use Rattle.syntax.specs.declared.Scan.TheVariants.{Good, Bad}
 use Rattle.syntax.specs.Bytes.{name_of}
 use Rattle.syntax.specs.Reader.{parse}
 use Rattle.syntax.specs.Scan.{scan}
@@ -64,10 +63,10 @@ module _ (s : List ℕ) (q : ℕ) where
   pub read_long : longest_rule < length s → text_read s q ≡ no_rule RuleLength longest_rule
   read_long h = simp (lt-ltb longest_rule (length s) h)
 
-  pub read_bad : (k : ℕ) → length s ≤ longest_rule → scan s ≡ Bad k → text_read s q ≡ no_rule RuleText k
+  pub read_bad : (k : ℕ) → length s ≤ longest_rule → scan s ≡ Err k → text_read s q ≡ no_rule RuleText k
   read_bad k h e = ap (λ b. cond b (no_rule RuleLength longest_rule) (of_scan (named s q) (scan s))) (le-ltb longest_rule (length s) h) ∙ ap (of_scan (named s q)) e
 
-  pub read_good_lem : length s ≤ longest_rule → scan s ≡ Good → text_read s q ≡ named s q
+  pub read_good_lem : length s ≤ longest_rule → scan s ≡ Ok tt → text_read s q ≡ named s q
   read_good_lem h e = ap (λ b. cond b (no_rule RuleLength longest_rule) (of_scan (named s q) (scan s))) (le-ltb longest_rule (length s) h) ∙ ap (of_scan (named s q)) e
 
 -- what the table's check answered decides

@@ -1,5 +1,5 @@
 -- What reading a rule's text answers: the checks one after the other (01, Refusal numbers).
-use Rattle.std.specs.Prelude.{ℕ, ◌+◌, List, [], ◌∷◌, Bool, false, ◌&&◌, cond, eqb, leb, ltb, length, Ok, Err}
+use Rattle.std.specs.Prelude.{ℕ, ◌+◌, List, [], ◌∷◌, Bool, false, ◌&&◌, cond, eqb, leb, ltb, length, Ok, Err, Result}
 use Rattle.meaning.specs.Limits.{most_nodes, most_parts}
 use Rattle.answers.specs.declared.Kind.{Kind}
 use Rattle.answers.specs.declared.Kind.TheVariants.{RuleLength, RuleText, Proposition, Nodes, Parts}
@@ -8,8 +8,6 @@ use Rattle.answers.specs.Paper.{refused_at}
 use Rattle.plant.specs.declared.Plant.{Plant}
 use Rattle.plant.specs.Table.{table_outcome}
 use Rattle.syntax.specs.declared.Rule.{Rule}
-use Rattle.syntax.specs.declared.Scan.{Scan}
-use Rattle.syntax.specs.declared.Scan.TheVariants.{Good, Bad}
 use Rattle.syntax.specs.Bytes.{name_of}
 use Rattle.syntax.specs.Reader.{parse}
 use Rattle.syntax.specs.Scan.{scan}
@@ -52,9 +50,9 @@ abbrev pub named : List ℕ → ℕ → RuleRead
 named s q = of_found (limited (written empty_rule (parse s))) (unknown_at q 0 s)
 
 -- 5
-abbrev pub of_scan : RuleRead → Scan → RuleRead
-of_scan r (Bad k) = no_rule RuleText k
-of_scan r Good = r
+abbrev pub of_scan : RuleRead → Result (Unit {0}) ℕ → RuleRead
+of_scan r (Err k) = no_rule RuleText k
+of_scan r (Ok _) = r
 
 -- 4, and with it what a text alone is answered, for q propositions
 abbrev pub text_read : List ℕ → ℕ → RuleRead

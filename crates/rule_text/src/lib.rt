@@ -5,7 +5,7 @@ ghost use Rattle.std.specs.Prelude.{◌≡◌, ◌+◌, ◌<◌, length, get_or,
 ghost use Rattle.rule_text.specs.Reading.{no_rule, unknown, unknown_at, limited, named, text_read};
 
 use answers::{Kind, Refusal};
-use syntax::{Rule, Scan};
+use syntax::Rule;
 
 // What reading a text answers. The rule beside a refusal is the value with no node.
 #[derive(Clone, Copy)]
@@ -85,7 +85,7 @@ pub fn read_text(text: &[u8], props: usize) -> RuleRead
         return RuleRead::refused(Kind::RuleLength, Rule::TEXT);
     }
     match scanner::scan_text(text) {
-        Scan::Bad(place) => RuleRead::refused(Kind::RuleText, place),
-        Scan::Good => read_good(text, props),
+        Err(place) => RuleRead::refused(Kind::RuleText, place),
+        Ok(()) => read_good(text, props),
     }
 }

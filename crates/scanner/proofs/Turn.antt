@@ -1,4 +1,5 @@
 -- One byte of the scanner, and what its code's tests say.
+use Rattle.std.specs.Prelude.{Err}
 use Prim.Native.Nat.{ℕ, zero, suc, ◌+◌, ◌-◌, ◌≤◌, ◌<◌}
 use mathlib.Core.Bool.{cond}
 use mathlib.Core.Path.{◌≡◌, refl, sym, ap, ◌∙◌}
@@ -10,7 +11,6 @@ use Rattle.syntax.specs.declared.Mode.TheVariants.{Operator, Stuck}
 use Rattle.syntax.specs.declared.Move.{Move}
 use Rattle.syntax.specs.declared.Move.TheVariants.{ToOperand, ToNumber, ToTeen, ToOperator, ToArrow, Opens, Closes, Stops}
 use Rattle.syntax.specs.declared.State.{State}
-use Rattle.syntax.specs.declared.Scan.TheVariants.{Bad}
 use Rattle.syntax.specs.Bytes.{sign_of}
 use Rattle.syntax.specs.Scan.{at, closes, moved, step, dead, scan_from}
 use Rattle.syntax.proofs.Places.{byte}
@@ -42,6 +42,6 @@ shallow d Stops = omega arith
 
 -- the scanner at a byte: stuck, or one place further
 pub turn : (st st' : State) (i : ℕ) (s : List ℕ) → i < length s → st' ≡ step st.mode st.depth (sign_of (get_or s i 0))
-    → scan_from st i (drop i s) ≡ cond (dead st'.mode) (Bad i) (scan_from st' (i + 1) (drop (i + 1) s))
+    → scan_from st i (drop i s) ≡ cond (dead st'.mode) (Err i) (scan_from st' (i + 1) (drop (i + 1) s))
 unfolding scan_from
-turn st st' i s h e = ap (scan_from st i) (byte s i h) ∙ ap (λ x. cond (dead x.mode) (Bad i) (scan_from x (i + 1) (drop (i + 1) s))) (sym e)
+turn st st' i s h e = ap (scan_from st i) (byte s i h) ∙ ap (λ x. cond (dead x.mode) (Err i) (scan_from x (i + 1) (drop (i + 1) s))) (sym e)

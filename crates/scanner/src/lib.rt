@@ -4,7 +4,7 @@
 ghost use Rattle.std.specs.Prelude.{◌≡◌, ◌<◌};
 ghost use Rattle.syntax.specs.Scan.{operand, digit, teen, operator, angle, move, closes, moved, ends, dead, scan};
 
-use syntax::{Mode, Move, Scan, Sign, State};
+use syntax::{Mode, Move, Sign, State};
 
 // An operand is to come. A digit that stands alone is 0 or 1.
 fn at_operand(sign: Sign) -> Move
@@ -151,7 +151,7 @@ fn may_end(mode: Mode, depth: usize) -> bool
 }
 
 // Whether a text is of the grammar; if not, the first place at which what is read begins no text, or its end.
-pub fn scan_text(text: &[u8]) -> Scan
+pub fn scan_text(text: &[u8]) -> Result<(), usize>
     ensures { result ≡ scan text.now }
 {
     let mut state = State {
@@ -161,12 +161,12 @@ pub fn scan_text(text: &[u8]) -> Scan
     for (at, byte) in text.iter().enumerate() {
         state = state_after(state.depth, move_of(state.mode, syntax::sign_of(*byte)));
         if is_dead(state.mode) {
-            return Scan::Bad(at);
+            return Err(at);
         }
     }
     if may_end(state.mode, state.depth) {
-        Scan::Good
+        Ok(())
     } else {
-        Scan::Bad(text.len())
+        Err(text.len())
     }
 }

@@ -2,8 +2,6 @@
 use Rattle.std.specs.Prelude.{cond, List, ℕ, ◌+◌, eqb, Result, Ok, Err}
 use Rattle.sheet.specs.declared.Key.{Key}
 use Rattle.sheet.specs.declared.Lines.{Lines}
-use Rattle.sheet.specs.declared.Scan.{Scan}
-use Rattle.sheet.specs.declared.Scan.TheVariants.{Good, Bad}
 use Rattle.sheet.specs.Machine.{scan_of}
 use Rattle.sheet.specs.Where.{length_of, start_of}
 use Rattle.answers.specs.declared.Kind.{Kind}
@@ -25,10 +23,10 @@ chosen own common key =
     cond (eqb (length_of key own) 0) (cond (eqb (length_of key common) 0) (Err (refusal_of NoKey 0 0)) (Ok (spot_in 2 key common))) (Ok (spot_in 1 key own))
 
 -- the local sheet is checked before the shared one, and both before a key is looked for
-abbrev pub judged : Scan → Scan → Key → Result Spot SheetRefusal
-judged (Bad i) common key = Err (refusal_of SheetText 1 i)
-judged (Good own) (Bad i) key = Err (refusal_of SheetText 2 i)
-judged (Good own) (Good common) key = chosen own common key
+abbrev pub judged : Result Lines ℕ → Result Lines ℕ → Key → Result Spot SheetRefusal
+judged (Err i) common key = Err (refusal_of SheetText 1 i)
+judged (Ok own) (Err i) key = Err (refusal_of SheetText 2 i)
+judged (Ok own) (Ok common) key = chosen own common key
 
 unfoldable pub asked : List ℕ → List ℕ → Key → Result Spot SheetRefusal
 asked local shared key = judged (scan_of local) (scan_of shared) key

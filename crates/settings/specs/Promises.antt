@@ -5,8 +5,7 @@ use Rattle.std.proofs.Common.{sym, ap, ap₂, ◌∙◌, arith, eqb-true, eq-eqb
 use Rattle.std.proofs.lemmas.Bool.{false≢true}
 use Rattle.std.specs.Borrow.{Bor}
 use Rattle.sheet.specs.declared.Key.{Key}
-use Rattle.sheet.specs.declared.Scan.{Scan}
-use Rattle.sheet.specs.declared.Scan.TheVariants.{Good, Bad}
+use Rattle.sheet.specs.declared.Lines.{Lines}
 use Rattle.sheet.specs.Sheet.{Values, IsSheet, value_of, from_of}
 use Rattle.sheet.specs.Machine.{scan_of}
 use Rattle.sheet.specs.Read.{lines_of}
@@ -38,7 +37,7 @@ spot_told n key x = ap₂ (λ a b. spot_at n a (a + b)) (start_told key x) (leng
 
 -- ---- what is asked, both sheets in order
 
-sheet_scan : (s : List ℕ) (x : Values) → IsSheet s x → scan_of s ≡ Good (lines_of x)
+sheet_scan : (s : List ℕ) (x : Values) → IsSheet s x → scan_of s ≡ Ok (lines_of x)
 sheet_scan s x is = (accepted_exactly s (lines_of x)).1 (record { values = x; sheet = is; lines = refl })
 
 -- ---- the promises
@@ -55,10 +54,10 @@ asked_exactly local shared key a = (λ e. rw (← e) (there (scan_of local) refl
     found x y is it true e false f = rw (spot_told 2 key y) (in_shared is it (none_of key x e) (one_of key y f))
     found x y is it true e true f = in_neither is it (none_of key x e) (none_of key y f)
 
-    there : (s : Scan) → scan_of local ≡ s → (t : Scan) → scan_of shared ≡ t → Answers local shared key (judged s t key)
-    there (Bad i) e t f = local_malformed ((refused_exactly local i).0 e)
-    there (Good l) e (Bad i) f = shared_malformed ((accepted_exactly local l).0 e).sheet ((refused_exactly shared i).0 f)
-    there (Good l) e (Good m) f =
+    there : (s : Result Lines ℕ) → scan_of local ≡ s → (t : Result Lines ℕ) → scan_of shared ≡ t → Answers local shared key (judged s t key)
+    there (Err i) e t f = local_malformed ((refused_exactly local i).0 e)
+    there (Ok l) e (Err i) f = shared_malformed ((accepted_exactly local l).0 e).sheet ((refused_exactly shared i).0 f)
+    there (Ok l) e (Ok m) f =
         let a = (accepted_exactly local l).0 e in
         let b = (accepted_exactly shared m).0 f in
         rw (a.lines, b.lines) (found a.values b.values a.sheet b.sheet _ refl _ refl)

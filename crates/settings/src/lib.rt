@@ -7,7 +7,7 @@ ghost use Rattle.settings.specs.Part.{IsPart, shifted, fitting, bytes_at};
 ghost use Rattle.settings.specs.Asked.{spot_in, chosen, asked, spot_of};
 
 use answers::Kind;
-use sheet::{Key, Lines, Scan};
+use sheet::{Key, Lines};
 
 // Where a value stands: in sheet 1, the local one, or 2, the shared one, from a place up to another.
 #[derive(Clone, Copy)]
@@ -104,17 +104,17 @@ pub fn ask<'a>(local: &'a [u8], shared: &'a [u8], key: Key) -> Result<Spot, Shee
     ensures { result ≡ asked local.now shared.now key }
 {
     match (sheet::scan_sheet(local), sheet::scan_sheet(shared)) {
-        (Scan::Bad(place), _) => Err(SheetRefusal {
+        (Err(place), _) => Err(SheetRefusal {
             kind: Kind::SheetText,
             sheet: 1,
             place,
         }),
-        (_, Scan::Bad(place)) => Err(SheetRefusal {
+        (_, Err(place)) => Err(SheetRefusal {
             kind: Kind::SheetText,
             sheet: 2,
             place,
         }),
-        (Scan::Good(own), Scan::Good(common)) => choose(own, common, key),
+        (Ok(own), Ok(common)) => choose(own, common, key),
     }
 }
 

@@ -1,8 +1,7 @@
 -- More of specs/Read. Every sheet is read: the machine goes through its lines to the end.
-use Rattle.std.specs.Prelude.{ℕ, zero, suc, ◌+◌, ◌≤◌, ◌<◌, ◌≡◌, refl, List, [], ◌∷◌, ◌++◌, length}
+use Rattle.std.specs.Prelude.{ℕ, zero, suc, ◌+◌, ◌≤◌, ◌<◌, ◌≡◌, refl, List, [], ◌∷◌, ◌++◌, length, Ok}
 use Rattle.std.proofs.Common.{ap, append_assoc, append-nil, arith, length-append, ne_eqb}
 use Rattle.sheet.specs.declared.Lines.{Lines}
-use Rattle.sheet.specs.declared.Scan.TheVariants.{Good}
 use Rattle.sheet.specs.declared.State.TheVariants.{Before, Value}
 use Rattle.sheet.specs.Sheet.{edition_key, rule_key, closing_key, number_from, number_of, Values, line_of, text_of, Given, given, IsSheet}
 use Rattle.sheet.specs.Machine.{lines_as, begin, ended, state_after, file_as, filed, scan_from}
@@ -77,6 +76,6 @@ reads_edition e r c h g f =
     end (b ∷ v) i k = reads_rule i r c (length (b ∷ v)) (number_of (b ∷ v)) k g f
 
 -- every sheet is read, and its lines are told
-pub sheet_read : (s : List ℕ) (x : Values) → IsSheet s x → begin s ≡ Good (lines_of x)
+pub sheet_read : (s : List ℕ) (x : Values) → IsSheet s x → begin s ≡ Ok (lines_of x)
 unfolding text_of
 sheet_read s x is = rw is.text ((reads_edition x.edition x.rule x.closing is.edition is.rule is.closing).reads 0)

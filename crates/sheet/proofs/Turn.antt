@@ -10,10 +10,9 @@ use lib.ListN.{length, get_or, drop}
 use lib.Seq.{drop-cons, drop-length}
 use borrow.Author.Tests.{ltb-true}
 use Rattle.sheet.specs.declared.Lines.{Lines}
-use Rattle.sheet.specs.declared.Scan.TheVariants.{Bad}
 use Rattle.sheet.specs.declared.State.{State}
 use Rattle.sheet.specs.declared.State.TheVariants.{Before, Name, Value, Stuck}
-use Rattle.std.specs.Prelude.{Option, Some, None}
+use Rattle.std.specs.Prelude.{Option, Some, None, Err}
 use Rattle.sheet.specs.Machine.{line_by, begun, key_byte, key_size, named, value_grown, further, ended, state_after, size_of, stuck, filed, scan_from}
 
 -- a text's byte at a place, and the text from the next place on
@@ -48,7 +47,7 @@ small Stuck b n h = omega arith
 
 -- the machine at a byte: stuck, or one place further
 pub turn : (l : Lines) (st st' : State) (i : ℕ) (s : List ℕ) → i < length s → st' ≡ state_after st (get_or s i 0)
-    → scan_from l st i (drop i s) ≡ cond (stuck st') (Bad i) (scan_from (filed l st (get_or s i 0)) st' (i + 1) (drop (i + 1) s))
+    → scan_from l st i (drop i s) ≡ cond (stuck st') (Err i) (scan_from (filed l st (get_or s i 0)) st' (i + 1) (drop (i + 1) s))
 unfolding scan_from
 turn l st st' i s h e =
-    ap (scan_from l st i) (byte s i h) ∙ ap (λ x. cond (stuck x) (Bad i) (scan_from (filed l st (get_or s i 0)) x (i + 1) (drop (i + 1) s))) (sym e)
+    ap (scan_from l st i) (byte s i h) ∙ ap (λ x. cond (stuck x) (Err i) (scan_from (filed l st (get_or s i 0)) x (i + 1) (drop (i + 1) s))) (sym e)

@@ -1,11 +1,10 @@
 -- More of specs/Where. Where the values stand in a sheet; so a text is a sheet with one set of values only.
-use Rattle.std.specs.Prelude.{ℕ, ◌≡◌, List, length, take, drop}
+use Rattle.std.specs.Prelude.{ℕ, ◌≡◌, List, length, take, drop, Ok}
 use Rattle.std.proofs.Common.{sym, ap, ap₂, ◌∙◌, arith}
 use Rattle.std.proofs.Math.Decide.{dec_lt}
 use Rattle.sheet.specs.declared.Lines.{Lines}
 use Rattle.sheet.specs.declared.Key.{Key}
 use Rattle.sheet.specs.declared.Key.TheVariants.{Edition, Rule, Closing}
-use Rattle.sheet.specs.declared.Scan.TheVariants.{Good}
 use Rattle.sheet.specs.Sheet.{Values, IsSheet, value_of, from_of}
 use Rattle.sheet.specs.Machine.{scan_of}
 use Rattle.sheet.specs.Read.{lines_of}
@@ -16,7 +15,7 @@ use Rattle.sheet.specs.Where.{Few, empty, length_of, length_told, start_of, star
 -- so a text has one set of values
 module _ (s : List ℕ) (x y : Values) (is : IsSheet s x) (it : IsSheet s y) where
   same_lines : lines_of x ≡ lines_of y
-  same_lines = let e : Good (lines_of x) ≡ Good (lines_of y) = sym (sheet_read s x is) ∙ sheet_read s y it in cc e
+  same_lines = let e : Ok (lines_of x) ≡ Ok (lines_of y) = sym (sheet_read s x is) ∙ sheet_read s y it in cc e
 
   same_value : (k : Key) → value_of k x ≡ value_of k y
   same_value k =
@@ -31,5 +30,5 @@ module _ (s : List ℕ) (x y : Values) (is : IsSheet s x) (it : IsSheet s y) whe
   one_sheet = λ i. record { edition = same_value Edition i; rule = same_value Rule i; closing = same_value Closing i }
 
 -- the lines of a text that is accepted
-pub scan_few : (s : List ℕ) (l : Lines) → scan_of s ≡ Good l → Few l
+pub scan_few : (s : List ℕ) (l : Lines) → scan_of s ≡ Ok l → Few l
 scan_few s l e = told_few s l ((accepted_exactly s l).0 e)

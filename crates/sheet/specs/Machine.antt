@@ -1,8 +1,6 @@
 -- The machine that reads a sheet byte by byte.
-use Rattle.std.specs.Prelude.{ℕ, ◌+◌, ◌*◌, ◌-◌, Bool, true, false, cond, List, [], ◌∷◌, eqb, ltb, leb, length, get_or}
+use Rattle.std.specs.Prelude.{ℕ, ◌+◌, ◌*◌, ◌-◌, Bool, true, false, cond, List, [], ◌∷◌, eqb, ltb, leb, length, get_or, Result, Ok, Err}
 use Rattle.sheet.specs.declared.Lines.{Lines}
-use Rattle.sheet.specs.declared.Scan.{Scan}
-use Rattle.sheet.specs.declared.Scan.TheVariants.{Good, Bad}
 use Rattle.sheet.specs.declared.State.{State}
 use Rattle.sheet.specs.declared.State.TheVariants.{Before, Name, Value, Stuck}
 use Rattle.std.specs.Prelude.{Option, Some, None}
@@ -98,12 +96,12 @@ filed l Stuck b = l
 -- ---- a text
 
 -- the text s stands from place i on, the lines read are l, and the machine is in the state st
-unfoldable pub scan_from : Lines → State → ℕ → List ℕ → Scan
-scan_from l st i [] = cond (may st) (Good l) (Bad i)
-scan_from l st i (b ∷ s) = cond (stuck (state_after st b)) (Bad i) (scan_from (filed l st b) (state_after st b) (i + 1) s)
+unfoldable pub scan_from : Lines → State → ℕ → List ℕ → Result Lines ℕ
+scan_from l st i [] = cond (may st) (Ok l) (Err i)
+scan_from l st i (b ∷ s) = cond (stuck (state_after st b)) (Err i) (scan_from (filed l st b) (state_after st b) (i + 1) s)
 
-abbrev pub begin : List ℕ → Scan
+abbrev pub begin : List ℕ → Result Lines ℕ
 begin s = scan_from (lines_as 0 0 0 0) (Before 0) 0 s
 
-unfoldable pub scan_of : List ℕ → Scan
-scan_of s = cond (ltb 1024 (length s)) (Bad 1024) (begin s)
+unfoldable pub scan_of : List ℕ → Result Lines ℕ
+scan_of s = cond (ltb 1024 (length s)) (Err 1024) (begin s)

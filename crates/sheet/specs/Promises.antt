@@ -1,10 +1,8 @@
 -- What reading a sheet promises. The contract of scan_sheet is an equation, `r ≡ scan_of s`; what that means is said here by specs/Sheet.
-use Rattle.std.specs.Prelude.{ℕ, suc, ◌≤◌, ◌<◌, ◌≡◌, List, ◌++◌, length, take, drop}
+use Rattle.std.specs.Prelude.{ℕ, suc, ◌≤◌, ◌<◌, ◌≡◌, List, ◌++◌, length, take, drop, Result, Ok, Err}
 use Rattle.std.proofs.Common.{append_assoc, ⊎_elim, arith, le_antisymm, take-append-drop, take-take, lt-ltb, le-ltb}
 use Rattle.text.specs.Cases.{below_or_beyond}
 use Rattle.sheet.specs.declared.Lines.{Lines}
-use Rattle.sheet.specs.declared.Scan.{Scan}
-use Rattle.sheet.specs.declared.Scan.TheVariants.{Good, Bad}
 use Rattle.sheet.specs.declared.State.{State}
 use Rattle.sheet.specs.Sheet.{Values, IsSheet, Begins, StopsAt}
 use Rattle.sheet.specs.Machine.{scan_from, begin, scan_of}
@@ -18,9 +16,9 @@ pub record Told (s : List ℕ) (l : Lines) : Type 0 where
   pub lines : l ≡ lines_of values
 
 -- what an answer says of a text
-abbrev pub Right : List ℕ → Scan → Type 0
-Right s (Good l) = Told s l
-Right s (Bad i) = StopsAt s i
+abbrev pub Right : List ℕ → Result Lines ℕ → Type 0
+Right s (Ok l) = Told s l
+Right s (Err i) = StopsAt s i
 
 -- p is read, and what follows is read from here
 pub record Passed (p : List ℕ) (l : Lines) (st : State) : Type 0 where
@@ -28,7 +26,7 @@ pub record Passed (p : List ℕ) (l : Lines) (st : State) : Type 0 where
   pub goes_on : (s : List ℕ) → begin (p ++ s) ≡ scan_from l st (length p) s
 
 -- good and bad are not the same
-pub good_bad : {A : Type 0} (l : Lines) (i : ℕ) → Good l ≡ Bad i → A
+pub good_bad : {A : Type 0} (l : Lines) (i : ℕ) → Ok l ≡ Err i → A
 good_bad l i e = let z : ◌≡◌ {A = ℕ} 0 1 = cc in absurd (omega arith)
 
 -- what begins a sheet does so from its start
@@ -54,6 +52,6 @@ pub looked : (s : List ℕ) → length s ≤ 1024 → scan_of s ≡ begin s
 unfolding scan_of
 looked s h = rw (le-ltb 1024 (length s) h)
 
-pub not_looked : (s : List ℕ) → 1024 < length s → scan_of s ≡ Bad 1024
+pub not_looked : (s : List ℕ) → 1024 < length s → scan_of s ≡ Err 1024
 unfolding scan_of
 not_looked s h = rw (lt-ltb 1024 (length s) h)

@@ -1,8 +1,7 @@
 -- What the machine reads of a sheet: a key, where its line may come. That it goes through all lines to the end is in proofs/Read.
-use Rattle.std.specs.Prelude.{ℕ, zero, suc, ◌≤◌, ◌<◌, ◌≡◌, List, [], ◌∷◌, ◌++◌, length}
+use Rattle.std.specs.Prelude.{ℕ, zero, suc, ◌≤◌, ◌<◌, ◌≡◌, List, [], ◌∷◌, ◌++◌, length, Ok}
 use Rattle.std.proofs.Common.{arith, le-ltb}
 use Rattle.sheet.specs.declared.Lines.{Lines}
-use Rattle.sheet.specs.declared.Scan.TheVariants.{Good}
 use Rattle.sheet.specs.declared.State.{State}
 use Rattle.sheet.specs.declared.State.TheVariants.{Before, Value}
 use Rattle.sheet.specs.Sheet.{edition_key, rule_key, closing_key, number_of, Values}
@@ -21,7 +20,7 @@ lines_of x = lines_as (length x.edition) (length x.rule) (length x.closing) (num
 
 -- from the state st, with the lines l, the text is read to its end, from whatever place
 pub record Reads (l : Lines) (st : State) (s : List ℕ) (m : Lines) : Type 0 where
-  pub reads : (i : ℕ) → scan_from l st i s ≡ Good m
+  pub reads : (i : ℕ) → scan_from l st i s ≡ Ok m
 
 -- a key, where its line may come
 pub reads_key : (k j : ℕ) (s : List ℕ) (l m : Lines) → k < 3 → j ≤ k → Reads l (Value k 0 0) s m → Reads l (Before j) (key_of k ++ s) m

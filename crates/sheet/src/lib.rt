@@ -67,13 +67,6 @@ pub enum Key {
     Closing,
 }
 
-// The answer to a text: it is a sheet, or it is refused at a place.
-#[derive(Clone, Copy)]
-pub enum Scan {
-    Good(Lines),
-    Bad(usize),
-}
-
 // Lines are numbered 0 (edition), 1 (rule), 2 (closing).
 // Before(k): a line from k on may begin, or the text may end. Name(k, i): i bytes of the key of line k are read, its `=` is not.
 // Value(k, at, n): `at` bytes of the value of line k are read, and make the number n (0 for a rule).
@@ -309,11 +302,11 @@ fn file(lines: Lines, state: State, b: u8) -> Lines
 }
 
 // Whether a text is a sheet, and what its lines are; if not, the first place at which what is read begins no sheet, or its end. A text over 1,024 bytes is not looked at.
-pub fn scan_sheet(text: &[u8]) -> Scan
+pub fn scan_sheet(text: &[u8]) -> Result<Lines, usize>
     ensures { result ≡ scan_of text.now }
 {
     if Lines::SHEET < text.len() {
-        return Scan::Bad(Lines::SHEET);
+        return Err(Lines::SHEET);
     }
     let mut lines = Lines::NONE;
     let mut state = State::Before(0);
@@ -321,12 +314,12 @@ pub fn scan_sheet(text: &[u8]) -> Scan
         lines = file(lines, state, b);
         state = step(state, b);
         if is_stuck(state) {
-            return Scan::Bad(at);
+            return Err(at);
         }
     }
     if may_end(state) {
-        Scan::Good(lines)
+        Ok(lines)
     } else {
-        Scan::Bad(text.len())
+        Err(text.len())
     }
 }

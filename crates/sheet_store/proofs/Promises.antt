@@ -1,13 +1,12 @@
 -- More of specs/Promises: what adding a sheet does to the texts that a store holds, and so the store after any adds.
-use Rattle.std.specs.Prelude.{ℕ, ◌≤◌, ◌<◌, ◌≡◌, Bool, List, [], ◌∷◌, ◌++◌, leb, length, drop}
+use Rattle.std.specs.Prelude.{ℕ, ◌≤◌, ◌<◌, ◌≡◌, Bool, List, [], ◌∷◌, ◌++◌, leb, length, drop, Result, Ok, Err}
 use Rattle.std.proofs.Math.Path.{refl, ap}
 use Rattle.std.proofs.Common.{◌∙◌, arith}
 use Rattle.std.proofs.Math.Bool.{true, false, cond}
 use Rattle.std.proofs.Math.Dec.{eqb}
 use Rattle.std.proofs.Math.ListN.{length-drop}
 use borrow.Author.Tests.{eqb-true, eqb-false, leb-true, leb-false}
-use Rattle.sheet.specs.declared.Scan.{Scan}
-use Rattle.sheet.specs.declared.Scan.TheVariants.{Good, Bad}
+use Rattle.sheet.specs.declared.Lines.{Lines}
 use Rattle.sheet.specs.Sheet.{number_of, Values, IsSheet}
 use Rattle.sheet.specs.Machine.{scan_of}
 use Rattle.sheet.specs.Short.{sheet_short}
@@ -57,9 +56,9 @@ module _ (st : Store) (ts : List (List ℕ)) (h : Shelf st ts) (s : List ℕ) wh
       by_zero x is true e = no_edition is (number_none x.edition is.edition (eqb-true (number_of x.edition) 0 e))
       by_zero x is false e = by_newest x is (λ z. eqb-false (number_of x.edition) 0 e (no_number x.edition z)) _ refl
 
-      by_scan : (a : Scan) → scan_of s ≡ a → Adds st ts s (added_for a st s)
-      by_scan (Bad i) e = no_sheet ((refused_exactly s i).0 e)
-      by_scan (Good l) e =
+      by_scan : (a : Result Lines ℕ) → scan_of s ≡ a → Adds st ts s (added_for a st s)
+      by_scan (Err i) e = no_sheet ((refused_exactly s i).0 e)
+      by_scan (Ok l) e =
           let t = (accepted_exactly s l).0 e in
           rw (t.lines, shelf_newest st ts h) (by_zero t.values t.sheet _ refl)
 

@@ -1,5 +1,5 @@
 -- The turns of loops over a store, and what its searches find.
-use Rattle.std.specs.Prelude.{ℕ, suc, ◌+◌, ◌≤◌, ◌<◌, ◌≡◌, refl, Bool, true, false, cond, List, [], ◌∷◌, ◌++◌, length, get_or, take, drop, set, eqb, ltb}
+use Rattle.std.specs.Prelude.{ℕ, suc, ◌+◌, ◌≤◌, ◌<◌, ◌≡◌, refl, Bool, true, false, cond, List, [], ◌∷◌, ◌++◌, length, get_or, take, drop, set, eqb, ltb, Ok}
 use Rattle.std.proofs.Common.{sym, ap, ◌∙◌, append_assoc, arith, add-one, add_comm, length-drop, take-suc, drop-cons, length-take-le, get_or-append-add, get_or-drop, get_or-take}
 use Rattle.std.proofs.lemmas.Bool.{false≢true}
 use Rattle.std.proofs.lemmas.List.{set_at}
@@ -7,7 +7,6 @@ use Rattle.std.proofs.Math.Seq.{drop-length}
 use borrow.Author.Tests.{eq-eqb, ne_eqb, eqb-true, lt-ltb, le-ltb, ltb-false}
 use Rattle.words.specs.Over.{over, over_set}
 use Rattle.sheet.specs.declared.Lines.{Lines}
-use Rattle.sheet.specs.declared.Scan.TheVariants.{Good}
 use Rattle.sheet.specs.Machine.{scan_of}
 use Rattle.sheet.specs.Short.{sheet_short}
 use Rattle.sheet.proofs.Promises.{accepted_exactly}
@@ -105,5 +104,5 @@ found_short e n ks h g f =
     edition_short (get_or ks i blank) (λ z. h (sym (ap edition_in (sym (get_or-take n ks i blank f)) ∙ is) ∙ z))
 
 -- a sheet is not too long
-pub scan_short : (s : List ℕ) (l : Lines) → scan_of s ≡ Good l → length s ≤ 1024
+pub scan_short : (s : List ℕ) (l : Lines) → scan_of s ≡ Ok l → length s ≤ 1024
 scan_short s l e = let t = (accepted_exactly s l).0 e in sheet_short s t.values t.sheet

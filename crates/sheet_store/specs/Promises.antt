@@ -1,6 +1,6 @@
 -- What the store promises. The contracts of add and copy_out are equations, `r ≡ added store sheet` and `copied store edition buffer`; what that means is said here by sheet/specs/Sheet
 -- and by the texts that a store holds (`Shelf`, oldest first).
-use Rattle.std.specs.Prelude.{ℕ, zero, suc, ◌≤◌, ◌<◌, ◌≡◌, Bool, List, [], ◌∷◌, ◌++◌, ◌↔◌, length, get_or, take, drop}
+use Rattle.std.specs.Prelude.{ℕ, zero, suc, ◌≤◌, ◌<◌, ◌≡◌, Bool, List, [], ◌∷◌, ◌++◌, ◌↔◌, length, get_or, take, drop, Result, Ok, Err}
 use Rattle.std.proofs.Math.Path.{refl, ap}
 use Rattle.std.proofs.Common.{arith, get_or-take}
 use Rattle.std.proofs.Math.Bool.{true, false, cond}
@@ -8,8 +8,7 @@ use Rattle.std.proofs.lemmas.Bool.{false≢true}
 use Rattle.std.proofs.Math.Dec.{eqb, ltb}
 use Rattle.std.proofs.Math.Seq.{length-take-le}
 use borrow.Author.Tests.{lt-ltb, le-ltb, ltb-true, ltb-false}
-use Rattle.sheet.specs.declared.Scan.{Scan}
-use Rattle.sheet.specs.declared.Scan.TheVariants.{Good, Bad}
+use Rattle.sheet.specs.declared.Lines.{Lines}
 use Rattle.sheet.specs.Sheet.{number_from, number_of, Decimal, Values, Given, left_out, given, IsSheet, Malformed}
 use Rattle.sheet.specs.Machine.{scan_of}
 use Rattle.sheet.proofs.Promises.{accepted_exactly, refused_exactly}
@@ -54,9 +53,9 @@ pub record Edition (s : List ℕ) : Type 0 where
 pub edition_told : (s : List ℕ) → 0 < edition_of s → Edition s
 edition_told s = by_scan (scan_of s) refl
   where
-    by_scan : (a : Scan) → scan_of s ≡ a → 0 < number_in a → Edition s
-    by_scan (Bad i) e h = absurd (omega arith)
-    by_scan (Good l) e h =
+    by_scan : (a : Result Lines ℕ) → scan_of s ≡ a → 0 < number_in a → Edition s
+    by_scan (Err i) e h = absurd (omega arith)
+    by_scan (Ok l) e h =
         let t = (accepted_exactly s l).0 e in
         let n : l.number ≡ number_of t.values.edition = ap (λ x. x.number) t.lines in
         record { values = t.values; sheet = t.sheet; some = λ z. omega (arith, no_number t.values.edition z); number = edition_is s t.values t.sheet }

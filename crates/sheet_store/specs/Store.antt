@@ -1,8 +1,7 @@
 -- The store's calls as the code makes them.
 use Rattle.std.specs.Prelude.{ℕ, suc, ◌+◌, ◌-◌, Bool, true, false, cond, List, [], ◌∷◌, ◌++◌, eqb, ltb, leb, length, get_or, take, drop, set, replicate, Result, Ok, Err}
 use Rattle.words.specs.Over.{over}
-use Rattle.sheet.specs.declared.Scan.{Scan}
-use Rattle.sheet.specs.declared.Scan.TheVariants.{Good, Bad}
+use Rattle.sheet.specs.declared.Lines.{Lines}
 use Rattle.sheet.specs.Machine.{scan_of}
 use Rattle.answers.specs.declared.Kind.{Kind}
 use Rattle.answers.specs.declared.Kind.TheVariants.{Value, Room, NoKey, SheetText, NotNewer, NotHeld}
@@ -27,9 +26,9 @@ abbrev pub text_in : Kept → List ℕ
 text_in t = take t.len t.bytes
 
 -- the edition's number of a text, 0 where it has none
-abbrev pub number_in : Scan → ℕ
-number_in (Good l) = l.number
-number_in (Bad i) = 0
+abbrev pub number_in : Result Lines ℕ → ℕ
+number_in (Ok l) = l.number
+number_in (Err i) = 0
 
 abbrev pub edition_of : List ℕ → ℕ
 edition_of s = number_in (scan_of s)
@@ -88,9 +87,9 @@ added_by st s n =
     cond (eqb n 0) (refused_as NoKey 0 0 st)
     (cond (leb n (newest_of st)) (refused_as NotNewer 0 0 st) (cond (eqb st.count 8) (held_as (pushed (dropped st) (kept_of s))) (held_as (pushed st (kept_of s)))))
 
-abbrev pub added_for : Scan → Store → List ℕ → Added
-added_for (Bad i) st s = refused_as SheetText 1 i st
-added_for (Good l) st s = added_by st s l.number
+abbrev pub added_for : Result Lines ℕ → Store → List ℕ → Added
+added_for (Err i) st s = refused_as SheetText 1 i st
+added_for (Ok l) st s = added_by st s l.number
 
 unfoldable pub added : Store → List ℕ → Added
 added st s = cond (overfull_of st) (refused_as Value 0 0 st) (added_for (scan_of s) st s)

@@ -7,7 +7,6 @@ ghost use Rattle.sheet_store.specs.Store.{overfull_of, edition_in, is_edition, k
 
 use answers::Kind;
 use settings::SheetRefusal;
-use sheet::Scan;
 
 // A kept sheet: its length, and its bytes from the start.
 #[derive(Clone, Copy)]
@@ -80,8 +79,8 @@ fn edition_of(kept: Kept) -> usize
         return 0;
     }
     match sheet::scan_sheet(&kept.bytes[..kept.len]) {
-        Scan::Good(lines) => lines.number,
-        Scan::Bad(_) => 0,
+        Ok(lines) => lines.number,
+        Err(_) => 0,
     }
 }
 
@@ -183,8 +182,8 @@ pub fn add(store: Store, sheet: &[u8]) -> Added
         return refuse(store, Kind::Value, 0, 0);
     }
     match sheet::scan_sheet(sheet) {
-        Scan::Bad(place) => refuse(store, Kind::SheetText, 1, place),
-        Scan::Good(lines) => add_edition(store, sheet, lines.number),
+        Err(place) => refuse(store, Kind::SheetText, 1, place),
+        Ok(lines) => add_edition(store, sheet, lines.number),
     }
 }
 

@@ -1,5 +1,5 @@
 -- More of specs/Right. What the tests find is what the check's rules say.
-use Rattle.std.specs.Prelude.{ℕ, ◌-◌, ◌≤◌, ◌<◌, ◌≡◌, refl, ◌↔◌, Bool, List, length, get_or}
+use Rattle.std.specs.Prelude.{ℕ, ◌-◌, ◌≤◌, ◌<◌, ◌≡◌, refl, ◌↔◌, Bool, List, length, get_or, Result}
 use Rattle.std.proofs.Common.{ap, subst, ◌∙◌, arith, length-drop}
 use Rattle.plant.specs.declared.Plant as plant
 use Rattle.plant.specs.Table.{plant_of}
@@ -12,7 +12,7 @@ use Rattle.around.proofs.Places.{place_self}
 use Rattle.around.specs.Along.{lasso_of, labels_of}
 use Rattle.around.proofs.AlongLaws.{state_at_lem, run_means}
 use Rattle.around.specs.Fill.{around_of}
-use Rattle.shown.specs.declared.Found.{Found}
+use Rattle.shown.specs.declared.Failing.{Failing}
 use Rattle.shown.specs.Shown.{Starts, MovesOn, FairOn, AgreesAll, FirstFailing}
 use Rattle.shown.specs.First.{first_says}
 use Rattle.shown.specs.Tests.{starts_of, moves_of, fair_of, agree_of, kept_of, first_of, checked_of}
@@ -72,7 +72,7 @@ judged T f b event lines mark run s v h =
     first_says _ _ _ _ _ (starts_say T run s) (moves_say T run s) (fair_say T run s) (λ m. agree_say T run s m.0 event lines) (λ m. kept_says b v (h m.0))
 
 pub checked_means :
-    (p : plant.Plant) (fair label next : List ℕ) (rule : Rule) (event : ℕ → Event) (lines mark : ℕ) (keeps : Bool) (run : List ℕ) (s : ℕ) (r : Found)
+    (p : plant.Plant) (fair label next : List ℕ) (rule : Rule) (event : ℕ → Event) (lines mark : ℕ) (keeps : Bool) (run : List ℕ) (s : ℕ) (r : Result (Unit {0}) Failing)
     → (rule.len ≤ 32) × (length run ≤ 4096) → r ≡ checked_of p fair label next rule event lines mark keeps run s → Means p fair label next rule event lines mark keeps run s r
 unfolding checked_of
 checked_means p fair label next rule event lines mark keeps run s r (short, few) e = record {

@@ -1,6 +1,6 @@
 -- What the tests find is what the check's rules say.
 use mathlib.Core.Logic.Iff
-use Rattle.std.specs.Prelude.{ℕ, suc, ◌+◌, ◌-◌, ◌<◌, ◌≡◌, Bool, true, false, ◌&&◌, List, length, get_or, drop}
+use Rattle.std.specs.Prelude.{ℕ, suc, ◌+◌, ◌-◌, ◌<◌, ◌≡◌, Bool, true, false, ◌&&◌, List, length, get_or, drop, Result}
 use Rattle.std.proofs.Common.{subst, arith, add-one, length-drop, get_or-drop}
 use Rattle.std.proofs.Math.Bool.{So}
 use Rattle.std.proofs.Math.Dec.{leb}
@@ -21,7 +21,7 @@ use Rattle.around.specs.Around.{place}
 use Rattle.around.proofs.Places.{place_below, place_self, place_on}
 use Rattle.around.specs.Along.{lasso_of}
 use Rattle.around.proofs.AlongLaws.{state_at_lem}
-use Rattle.shown.specs.declared.Found.{Found}
+use Rattle.shown.specs.declared.Failing.{Failing}
 use Rattle.shown.specs.Shown.{Starts, MovesOn, FairOn, AgreesAll, FirstFailing}
 use Rattle.shown.specs.Positions.{position_at}
 use Rattle.shown.specs.Tests.{starts_of, move_at, moves_of, meets_of, fair_of, agree_at, agree_of, kept_of}
@@ -91,5 +91,5 @@ kept_says true v h = h
 kept_says false v h = says_not h
 
 -- of a rule's value
-pub record Means (p : plant.Plant) (fair label next : List ℕ) (rule : Rule) (event : ℕ → Event) (lines mark : ℕ) (keeps : Bool) (run : List ℕ) (s : ℕ) (r : Found) : Type 0 where
+pub record Means (p : plant.Plant) (fair label next : List ℕ) (rule : Rule) (event : ℕ → Event) (lines mark : ℕ) (keeps : Bool) (run : List ℕ) (s : ℕ) (r : Result (Unit {0}) Failing) : Type 0 where
   pub says : (f : Formula) → rule ≡ rule_of f → FirstFailing (plant_of p fair label next) f keeps event lines mark run s r

@@ -1,5 +1,5 @@
 -- WHAT EACH RULE OF THE CHECK SAYS of a run that is shown, as a list of states whose first s are the stem (02, l).
-use Rattle.std.specs.Prelude.{ℕ, suc, ◌≤◌, ◌<◌, ◌≡◌, ◌↔◌, Bool, List, length, get_or}
+use Rattle.std.specs.Prelude.{ℕ, suc, ◌≤◌, ◌<◌, ◌≡◌, ◌↔◌, Bool, List, length, get_or, Result, Ok, Err}
 use Rattle.std.proofs.Math.Bool.{So}
 use Rattle.meaning.specs.Bit.{bit}
 use Rattle.meaning.specs.Says.{Kept}
@@ -10,8 +10,7 @@ use Rattle.event_log.specs.declared.Event.{Event}
 use Rattle.event_log.specs.Legal.{seen_of}
 use Rattle.around.specs.Around.{place}
 use Rattle.around.specs.Along.{lasso_of}
-use Rattle.shown.specs.declared.Found.{Found}
-use Rattle.shown.specs.declared.Found.TheVariants.{Correct, Fails}
+use Rattle.shown.specs.declared.Failing.{Failing}
 use Rattle.shown.specs.declared.Failing.TheVariants.{Start, Moves, Fairness, Agreement, Value}
 use Rattle.shown.specs.Positions.{position_at}
 
@@ -33,15 +32,15 @@ abbrev pub AgreesAll : Plant → Lasso → (ℕ → Event) → ℕ → Type 0
 AgreesAll T L event n = (i : ℕ) → i < n → Agrees (seen_of (event i)) (label_of T (state_at L (position_at event i)))
 
 -- which of five rules fails first, or none
-pub record Firsts (A B C D E : Type 0) (r : Found) : Type 0 where
-  pub correct : (r ≡ Correct) ↔ (A × B × C × D × E)
-  pub start : (r ≡ Fails Start) ↔ (A → ⊥)
-  pub moves : (r ≡ Fails Moves) ↔ (A × (B → ⊥))
-  pub fairness : (r ≡ Fails Fairness) ↔ (A × B × (C → ⊥))
-  pub agreement : (r ≡ Fails Agreement) ↔ (A × B × C × (D → ⊥))
-  pub value : (r ≡ Fails Value) ↔ (A × B × C × D × (E → ⊥))
+pub record Firsts (A B C D E : Type 0) (r : Result (Unit {0}) Failing) : Type 0 where
+  pub correct : (r ≡ Ok tt) ↔ (A × B × C × D × E)
+  pub start : (r ≡ Err Start) ↔ (A → ⊥)
+  pub moves : (r ≡ Err Moves) ↔ (A × (B → ⊥))
+  pub fairness : (r ≡ Err Fairness) ↔ (A × B × (C → ⊥))
+  pub agreement : (r ≡ Err Agreement) ↔ (A × B × C × (D → ⊥))
+  pub value : (r ≡ Err Value) ↔ (A × B × C × D × (E → ⊥))
 
 -- what is found of a run that is to keep the rule (b is true) or to break it (b is false), judged from the mark on: the first rule that fails
-abbrev pub FirstFailing : Plant → Formula → Bool → (ℕ → Event) → ℕ → ℕ → List ℕ → ℕ → Found → Type 0
+abbrev pub FirstFailing : Plant → Formula → Bool → (ℕ → Event) → ℕ → ℕ → List ℕ → ℕ → Result (Unit {0}) Failing → Type 0
 FirstFailing T f b event n mark run s r =
     Firsts (Starts T run) (MovesOn T run s) (FairOn T run s) (AgreesAll T (lasso_of run s) event n) (Kept b (Holds (labels_along T (lasso_of run s)) f mark)) r

@@ -1,5 +1,5 @@
 -- The rules of the check as tests, as the loops work them out.
-use Rattle.std.specs.Prelude.{ℕ, ◌+◌, Bool, ◌&&◌, cond, not, List, ltb, leb, length, get_or}
+use Rattle.std.specs.Prelude.{ℕ, ◌+◌, Bool, ◌&&◌, cond, not, List, ltb, leb, length, get_or, Result, Ok, Err}
 use Rattle.meaning.specs.Bit.{bit}
 use Rattle.plant.specs.declared.Plant.{Plant}
 use Rattle.syntax.specs.declared.Rule.{Rule}
@@ -9,8 +9,7 @@ use Rattle.labels.specs.Labels.{agrees}
 use Rattle.around.specs.Around.{place}
 use Rattle.around.specs.Along.{labels_of}
 use Rattle.around.specs.Fill.{around_of}
-use Rattle.shown.specs.declared.Found.{Found}
-use Rattle.shown.specs.declared.Found.TheVariants.{Correct, Fails}
+use Rattle.shown.specs.declared.Failing.{Failing}
 use Rattle.shown.specs.declared.Failing.TheVariants.{Start, Moves, Fairness, Agreement, Value}
 use Rattle.shown.specs.Positions.{position_at}
 
@@ -48,12 +47,12 @@ abbrev pub kept_of : Bool → Bool → Bool
 kept_of asked value = cond asked value (not value)
 
 -- the first that fails
-unfoldable pub first_of : Bool → Bool → Bool → Bool → Bool → Found
+unfoldable pub first_of : Bool → Bool → Bool → Bool → Bool → Result (Unit {0}) Failing
 first_of starts moves fair agree kept =
-    cond starts (cond moves (cond fair (cond agree (cond kept Correct (Fails Value)) (Fails Agreement)) (Fails Fairness)) (Fails Moves)) (Fails Start)
+    cond starts (cond moves (cond fair (cond agree (cond kept (Ok tt) (Err Value)) (Err Agreement)) (Err Fairness)) (Err Moves)) (Err Start)
 
 -- what the check finds, of n events
-unfoldable pub checked_of : Plant → List ℕ → List ℕ → List ℕ → Rule → (ℕ → Event) → ℕ → ℕ → Bool → List ℕ → ℕ → Found
+unfoldable pub checked_of : Plant → List ℕ → List ℕ → List ℕ → Rule → (ℕ → Event) → ℕ → ℕ → Bool → List ℕ → ℕ → Result (Unit {0}) Failing
 checked_of p fair label next rule event n mark keeps run s =
     first_of (starts_of p.start p.states run) (moves_of next p.states run s) (fair_of fair run s) (agree_of label run s event n)
     (kept_of keeps (around_of rule (labels_of label run) s mark))

@@ -27,13 +27,6 @@ pub enum Failing {
     Value,
 }
 
-// What the check finds: no fault, or the first rule that fails.
-#[derive(Clone, Copy)]
-pub enum Found {
-    Correct,
-    Fails(Failing),
-}
-
 // The state at a place of the run, and 0 beyond.
 fn state_at(run: &[u8], at: usize) -> usize
     ensures { result ≡ get_or run.now at 0 }
@@ -126,7 +119,7 @@ pub fn check_run(
     keeps: bool,
     run: &[u8],
     stem: usize,
-) -> Found
+) -> Result<(), Failing>
     requires { (rule.len ≤ 32) × (length run.now ≤ 4096) }
     ensures is { result ≡ checked_of plant fair.now label.now next.now rule
         (event_at (width_of plant.props) log.now) (whole_lines (width_of plant.props) log.now) mark keeps run.now stem }
@@ -134,19 +127,19 @@ pub fn check_run(
         (event_at (width_of plant.props) log.now) (whole_lines (width_of plant.props) log.now) mark keeps run.now stem result }
 {
     if !starts(plant.start, plant.states, run) {
-        return Found::Fails(Failing::Start);
+        return Err(Failing::Start);
     }
     if !moves(next, plant.states, run, stem) {
-        return Found::Fails(Failing::Moves);
+        return Err(Failing::Moves);
     }
     if !is_fair(fair, run, stem) {
-        return Found::Fails(Failing::Fairness);
+        return Err(Failing::Fairness);
     }
     if !agree(label, run, stem, log, plant.props) {
-        return Found::Fails(Failing::Agreement);
+        return Err(Failing::Agreement);
     }
     if !kept(keeps, holds_on_run(rule, label, run, stem, mark)) {
-        return Found::Fails(Failing::Value);
+        return Err(Failing::Value);
     }
-    Found::Correct
+    Ok(())
 }

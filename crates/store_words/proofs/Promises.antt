@@ -1,13 +1,12 @@
 -- What the lent words promise: keeping sheets in words is adding them to the store that the words are. So all that sheet_store/specs/Promises says of stores holds of words.
-use Rattle.std.specs.Prelude.{ℕ, zero, suc, ◌+◌, ◌*◌, ◌-◌, ◌/◌, ◌%◌, ◌≤◌, ◌<◌, ◌≡◌, refl, Bool, true, false, cond, List, [], ◌∷◌, ◌++◌, eqb, leb, length, get_or, take, drop, set, replicate}
+use Rattle.std.specs.Prelude.{ℕ, zero, suc, ◌+◌, ◌*◌, ◌-◌, ◌/◌, ◌%◌, ◌≤◌, ◌<◌, ◌≡◌, refl, Bool, true, false, cond, List, [], ◌∷◌, ◌++◌, eqb, leb, length, get_or, take, drop, set, replicate, Result, Ok, Err}
 use Rattle.std.proofs.Common.{sym, ap, ◌∙◌, arith, length-append, length-drop, length-set, get_or-append-add, get_or-drop, length-take-le}
 use Rattle.std.proofs.Math.Decide.{dec_lt}
 use Rattle.std.proofs.lemmas.List.{length-replicate}
 use Rattle.std.proofs.Math.ListN.{get_or-append, get_or-eq_default}
 use Rattle.words.specs.Below.{list_below}
 use Rattle.words.specs.Lists.{length_list, list_at, zeros}
-use Rattle.sheet.specs.declared.Scan.{Scan}
-use Rattle.sheet.specs.declared.Scan.TheVariants.{Good, Bad}
+use Rattle.sheet.specs.declared.Lines.{Lines}
 use Rattle.sheet.specs.Machine.{scan_of}
 use Rattle.sheet_store.specs.declared.Kept.{Kept}
 use Rattle.sheet_store.specs.declared.Store.{Store}
@@ -134,9 +133,9 @@ next_store w s b =
     held : (st : Store) → Fit st → Q (held_as st)
     held st f = fit_back st f
 
-    by_scan : (a : Scan) → scan_of s ≡ a → Q (added_for a (store_in w) s)
-    by_scan (Bad i) e = refl
-    by_scan (Good l) e =
+    by_scan : (a : Result Lines ℕ) → scan_of s ≡ a → Q (added_for a (store_in w) s)
+    by_scan (Err i) e = refl
+    by_scan (Ok l) e =
         let t = new_typed s b (scan_short s l e) in
         let f = fit_in w in
         either (eqb l.number 0) Q _ _ refl

@@ -1,4 +1,5 @@
 -- The scanner says what the grammar says: whether a text is of it, and where it is refused.
+use Rattle.std.specs.Prelude.{Result, Ok, Err}
 use Prim.Native.Nat.{ℕ, zero, suc, ◌+◌, ◌<◌}
 use mathlib.Core.Path.{◌≡◌, refl, sym, ap, subst, ◌∙◌}
 use mathlib.Core.Logic.{inl, inr}
@@ -18,8 +19,6 @@ use Rattle.syntax.specs.declared.Sign.TheVariants.{Blank}
 use Rattle.syntax.specs.declared.Mode.{Mode}
 use Rattle.syntax.specs.declared.Mode.TheVariants.{Operand, Number, Teen, Operator, Arrow, Stuck}
 use Rattle.syntax.specs.declared.State.{State}
-use Rattle.syntax.specs.declared.Scan.{Scan}
-use Rattle.syntax.specs.declared.Scan.TheVariants.{Good, Bad}
 use Rattle.syntax.specs.Grammar.{names, spell, Spelt, sp_false, sp_true, sp_prop, sp_not, sp_next, sp_finally, sp_globally, sp_until, sp_release, sp_and, sp_or, sp_arrow, sp_open, sp_close, Spells, end, space, token, Level, Text, atom, group, unary, lefts, rights, tight, SaidBy, Viable, Refused}
 use Rattle.syntax.specs.Bytes.{sign_of}
 use Rattle.syntax.specs.Scan.{at, stuck, closes, named, teen, step, run, start, ends, dead, scan_from, scan}
@@ -239,11 +238,11 @@ not_viable p e v =
     absurd (false≢true (sym (ap may_end a) ∙ taken v.says))
 
 -- what the answer of the scanner says of a text
-abbrev pub Judged : List ℕ → Scan → Type 0
-Judged s Good = (f : Formula) × SaidBy f s
-Judged s (Bad k) = Refused s k
+abbrev pub Judged : List ℕ → Result (Unit {0}) ℕ → Type 0
+Judged s (Ok _) = (f : Formula) × SaidBy f s
+Judged s (Err k) = Refused s k
 
-choose : (s : List ℕ) (t : Bool) (x y : Scan) → (t ≡ true → Judged s x) → (t ≡ false → Judged s y) → Judged s (cond t x y)
+choose : (s : List ℕ) (t : Bool) (x y : Result (Unit {0}) ℕ) → (t ≡ true → Judged s x) → (t ≡ false → Judged s y) → Judged s (cond t x y)
 choose s true x y f g = f refl
 choose s false x y f g = g refl
 
@@ -260,7 +259,7 @@ unfolding scan_from
 judged [] p a =
     let st = run start p in
     rw append-nil
-    (choose p (ends st.mode st.depth) Good (Bad (length p)) (λ e. built p e)
+    (choose p (ends st.mode st.depth) (Ok tt) (Err (length p)) (λ e. built p e)
     (λ e. record {
       outside = λ f r. absurd (false≢true (sym e ∙ taken r));
       before = rw (take-length p) (viable p a);
@@ -271,7 +270,7 @@ judged (b ∷ s) p a =
     let st' = step st.mode st.depth (sign_of b) in
     let one : run start (p ++ b ∷ []) ≡ st' = ran_one p b in
     let cut : take (suc (length p)) (p ++ b ∷ s) ≡ p ++ b ∷ [] = take_one p b s in
-    choose (p ++ b ∷ s) (dead st'.mode) (Bad (length p)) (scan_from st' (length p + 1) s)
+    choose (p ++ b ∷ s) (dead st'.mode) (Err (length p)) (scan_from st' (length p + 1) s)
     (λ e.
     let none : Viable (p ++ b ∷ []) → ⊥ = not_viable (p ++ b ∷ []) (ap (λ x. dead x.mode) one ∙ e) in
     record {

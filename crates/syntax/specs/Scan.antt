@@ -1,5 +1,5 @@
 -- The scanner: two modes and a depth of open parentheses, with a mode inside `p3`, one behind `p1`, which may go on, and one inside `->`.
-use Rattle.std.specs.Prelude.{ℕ, zero, suc, ◌+◌, List, [], ◌∷◌, Bool, true, false, cond, eqb}
+use Rattle.std.specs.Prelude.{ℕ, zero, suc, ◌+◌, List, [], ◌∷◌, Bool, true, false, cond, eqb, Result, Ok, Err}
 use Rattle.syntax.specs.declared.Sign.{Sign}
 use Rattle.syntax.specs.declared.Sign.TheVariants.{Blank, Digit, Letter, Before, Between, Dash, Angle, Left, Right, Other}
 use Rattle.syntax.specs.declared.Mode.{Mode}
@@ -7,8 +7,6 @@ use Rattle.syntax.specs.declared.Mode.TheVariants.{Operand, Number, Teen, Operat
 use Rattle.syntax.specs.declared.Move.{Move}
 use Rattle.syntax.specs.declared.Move.TheVariants.{ToOperand, ToNumber, ToTeen, ToOperator, ToArrow, Opens, Closes, Stops}
 use Rattle.syntax.specs.declared.State.{State}
-use Rattle.syntax.specs.declared.Scan.{Scan}
-use Rattle.syntax.specs.declared.Scan.TheVariants.{Good, Bad}
 use Rattle.syntax.specs.Bytes.{sign_of, goes_on}
 
 abbrev pub at : Mode → ℕ → State
@@ -134,10 +132,10 @@ dead Operator = false
 dead Arrow = false
 
 -- the text s stands from place i on, and the scanner is in the state st
-unfoldable pub scan_from : State → ℕ → List ℕ → Scan
-scan_from st i [] = cond (ends st.mode st.depth) Good (Bad i)
+unfoldable pub scan_from : State → ℕ → List ℕ → Result (Unit {0}) ℕ
+scan_from st i [] = cond (ends st.mode st.depth) (Ok tt) (Err i)
 scan_from st i (b ∷ s) =
-    cond (dead (step st.mode st.depth (sign_of b)).mode) (Bad i) (scan_from (step st.mode st.depth (sign_of b)) (i + 1) s)
+    cond (dead (step st.mode st.depth (sign_of b)).mode) (Err i) (scan_from (step st.mode st.depth (sign_of b)) (i + 1) s)
 
-unfoldable pub scan : List ℕ → Scan
+unfoldable pub scan : List ℕ → Result (Unit {0}) ℕ
 scan s = scan_from start 0 s

@@ -119,13 +119,6 @@ pub struct State {
     pub depth: usize,
 }
 
-// Whether a text is of the grammar, and if not the place that says so.
-#[derive(Clone, Copy, Debug, PartialEq, Eq)]
-pub enum Scan {
-    Good,
-    Bad(usize),
-}
-
 // What one byte may be.
 #[tactic(auto, using(crate::proofs::Named::last_digit), unfolding(crate::specs::Bytes::sign_of))]
 pub fn sign_of(b: u8) -> Sign

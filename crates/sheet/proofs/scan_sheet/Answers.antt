@@ -1,6 +1,6 @@
 -- `sheet::scan_sheet` meets its contract: a turn's step is the machine's (`turn`), and behind the last byte the text may end or not. Assumes nothing.
+use Rattle.std.specs.Prelude.{Ok, Err}
 use Rattle.std.proofs.Common.{length, ◌+◌, cond, ◌≡◌, sym, ap, ◌∙◌, arith, drop, get_or}
-use Rattle.sheet.specs.declared.Scan.TheVariants.{Good, Bad}
 use Rattle.sheet.specs.Machine.{scan_from, begin}
 use Rattle.sheet.specs.Promises.{looked, not_looked}
 use Rattle.sheet.proofs.Turn.{at_end_lem, small, turn}
@@ -11,7 +11,7 @@ use Rattle.sheet.proofs.scan_sheet.Goals.{After-is_stuck, After-may_end}
 stepped : (c : goal.After-is_stuck) →
     let l = c.loop-at in
     let s = c.args.text.now in
-    cond c.is_stuck.result (Bad l.at) (scan_from c.file-lines.result c.step-state.result (l.at + 1) (drop (l.at + 1) s)) ≡ begin s
+    cond c.is_stuck.result (Err l.at) (scan_from c.file-lines.result c.step-state.result (l.at + 1) (drop (l.at + 1) s)) ≡ begin s
 stepped c =
     let l = c.loop-at in
     let s = c.args.text.now in
@@ -20,7 +20,7 @@ stepped c =
 
 -- after the loop, it answers by whether the text may end
 ended : (c : goal.After-may_end) →
-    cond c.may_end.result (Good c.loop-at.lines) (Bad (length c.args.text.now)) ≡ begin c.args.text.now
+    cond c.may_end.result (Ok c.loop-at.lines) (Err (length c.args.text.now)) ≡ begin c.args.text.now
 unfolding scan_from
 ended c =
     let l = c.loop-at in
