@@ -1,7 +1,8 @@
 // The monitor: opened, looked at, stepped, by value. Here are the checks and the calls; how it moves is in advance.
 #![tactic(auto)]
 
-ghost use Rattle.std.specs.Prelude.{◌≡◌};
+ghost use Rattle.std.specs.Prelude.{◌≡◌, ◌&&◌, ◌^◌, leb};
+ghost use Rattle.checks.specs.Checks.{pairs_fit};
 ghost use Rattle.sides.specs.Held.{model_of};
 ghost use Rattle.monitor.specs.Calls.{lamp_of, open_call, look_call, step_call};
 ghost use Rattle.monitor.specs.Checked.{held_of, caught_of};
@@ -29,6 +30,7 @@ fn lamp(monitor: Monitor) -> Answer
 }
 
 // Checks 1, 2 and 9: the table, the rule, two sets of pairs, and the number expected.
+#[tactic(auto, unfolding(crate::specs::Checked::held_of))]
 fn check_held(
     plant: Plant,
     fair: &[u64],
@@ -41,20 +43,22 @@ fn check_held(
 ) -> Result<(), Refusal>
     ensures { result ≡ held_of plant fair.now label.now next.now rule one.now two.now expected }
 {
-    let outcome = checks::check_input(plant, fair, label, next, rule);
-    match outcome {
-        Err(refusal) => Err(refusal),
-        Ok(()) => {
-            let states = words::all(plant.states);
-            let count = moves::valuations(syntax::parts_of(rule));
-            let fits = checks::pairs_fit(one, states, count)
-                & (checks::pairs_fit(two, states, count) & (expected <= event_numbers::USED_UP));
-            if fits {
-                return Ok(());
-            }
-            Err(Refusal::at(Kind::Value, 0))
-        }
+    checks::check_input(plant, fair, label, next, rule)?;
+    let states = words::all(plant.states);
+    let count = moves::valuations(syntax::parts_of(rule));
+    if !both_fit(one, two, expected, states, count) {
+        return Err(Refusal::at(Kind::Value, 0));
     }
+    Ok(())
+}
+
+// Whether two sets of pairs are of these states and valuations, and the number expected is one, or says that they are used up.
+fn both_fit(one: &[u64; 64], two: &[u64; 64], expected: u64, states: u64, count: usize) -> bool
+    ensures { result ≡ (pairs_fit one.now states count && (pairs_fit two.now states count && leb expected (2 ^ 32))) }
+{
+    checks::pairs_fit(one, states, count)
+        && checks::pairs_fit(two, states, count)
+        && expected <= event_numbers::USED_UP
 }
 
 // The live pairs at starting states, by whether the rule holds there.
@@ -68,8 +72,7 @@ pub fn open(
 ) -> Watched
     ensures { result ≡ open_call plant fair.now label.now next.now rule live }
 {
-    let outcome = check_held(plant, fair, label, next, rule, &live.words, &live.words, 0);
-    match outcome {
+    match check_held(plant, fair, label, next, rule, &live.words, &live.words, 0) {
         Err(refusal) => Watched {
             answer: Err(refusal),
             monitor: Monitor::NONE,
@@ -95,24 +98,22 @@ pub fn look(
 ) -> Answer
     ensures { result ≡ look_call plant fair.now label.now next.now rule monitor }
 {
-    let keeps = monitor.keeps;
-    let breaks = monitor.breaks;
-    let outcome = check_held(
+    check_held(
         plant,
         fair,
         label,
         next,
         rule,
-        &keeps.words,
-        &breaks.words,
+        &monitor.keeps.words,
+        &monitor.breaks.words,
         monitor.expected,
-    );
-    outcome?;
+    )?;
     let lamp = advance::lamp(monitor);
     Ok(lamp)
 }
 
 // Checks 1, 2, 9, 10 and 16.
+#[tactic(auto, unfolding(crate::specs::Checked::caught_of))]
 fn check_step(
     plant: Plant,
     fair: &[u64],
@@ -125,10 +126,8 @@ fn check_step(
 ) -> Result<(), Refusal>
     ensures { result ≡ caught_of plant fair.now label.now next.now rule live monitor event }
 {
-    let keeps = monitor.keeps;
-    let breaks = monitor.breaks;
-    let both = keeps.join(breaks);
-    let outcome = check_held(
+    let both = monitor.keeps.join(monitor.breaks);
+    check_held(
         plant,
         fair,
         label,
@@ -137,11 +136,8 @@ fn check_step(
         &live.words,
         &both.words,
         monitor.expected,
-    );
-    match outcome {
-        Err(refusal) => Err(refusal),
-        Ok(()) => check_event(event, plant.props, monitor.seen, monitor.expected),
-    }
+    )?;
+    check_event(event, plant.props, monitor.seen, monitor.expected)
 }
 
 // One event more, behind those whose numbers are missing before it. The table and the rule are worked out anew, so a step needs nothing but what it is handed.
@@ -157,8 +153,7 @@ pub fn step(
 ) -> Watched
     ensures { result ≡ step_call plant fair.now label.now next.now rule live monitor event }
 {
-    let outcome = check_step(plant, fair, label, next, rule, live, monitor, event);
-    match outcome {
+    match check_step(plant, fair, label, next, rule, live, monitor, event) {
         Err(refusal) => Watched {
             answer: Err(refusal),
             monitor,

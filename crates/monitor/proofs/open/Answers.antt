@@ -9,16 +9,16 @@ pub opened-monitor-requires : goal.opened-monitor-requires
 opened-monitor-requires c =
     let a = c.args in
     ready (open_input a.plant a.fair.now a.label.now a.next.now a.rule (search rules)
-    a.live (words_of a.live.words c.well_formed.1.1.1.1.1.0.1.1.0) c.check_held-outcome.ensures c.in-Ok.is)
+    a.live (words_of a.live.words c.well_formed.1.1.1.1.1.0.1.1.0) c.check_held.ensures c.in-Ok.is)
 
 pub returns-in-Err : goal.returns-in-Err
 returns-in-Err c =
     let a = c.args in
     not_opened a.plant a.fair.now a.label.now a.next.now a.rule (search rules)
-    a.live (words_of a.live.words c.well_formed.1.1.1.1.1.0.1.1.0) c.check_held-outcome.ensures c.in-Err.is
+    a.live (words_of a.live.words c.well_formed.1.1.1.1.1.0.1.1.0) c.check_held.ensures c.in-Err.is
 
 pub returns-in-Ok : goal.returns-in-Ok
 returns-in-Ok c =
     let a = c.args in
     is_opened a.plant a.fair.now a.label.now a.next.now a.rule (search rules)
-    a.live (words_of a.live.words c.well_formed.1.1.1.1.1.0.1.1.0) c.check_held-outcome.ensures c.in-Ok.is c.opened-monitor.ensures c.lamp.ensures
+    a.live (words_of a.live.words c.well_formed.1.1.1.1.1.0.1.1.0) c.check_held.ensures c.in-Ok.is c.opened-monitor.ensures c.lamp.ensures

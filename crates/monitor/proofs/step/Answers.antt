@@ -12,7 +12,7 @@ stepped-stepped-requires c =
     let m = g.1.0.1.1 in
     let given = step_given a.plant a.fair.now a.label.now a.next.now a.rule (search rules) a.live a.monitor a.event
     (words_of a.live.words g.0.1.1.0) (words_of a.monitor.keeps.words m.1.0.1.1.0) (words_of a.monitor.breaks.words m.1.1.0.1.1.0)
-    c.check_step-outcome.ensures c.in-Ok.is in
+    c.check_step.ensures c.in-Ok.is in
     (ready given.0, given.1)
 
 pub returns-in-Err : goal.returns-in-Err
@@ -22,7 +22,7 @@ returns-in-Err c =
     let m = g.1.0.1.1 in
     not_stepped a.plant a.fair.now a.label.now a.next.now a.rule (search rules) a.live a.monitor a.event
     (words_of a.live.words g.0.1.1.0) (words_of a.monitor.keeps.words m.1.0.1.1.0) (words_of a.monitor.breaks.words m.1.1.0.1.1.0)
-    c.check_step-outcome.ensures c.in-Err.is
+    c.check_step.ensures c.in-Err.is
 
 pub returns-in-Ok : goal.returns-in-Ok
 returns-in-Ok c =
@@ -31,4 +31,4 @@ returns-in-Ok c =
     let m = g.1.0.1.1 in
     is_stepped a.plant a.fair.now a.label.now a.next.now a.rule (search rules) a.live a.monitor a.event
     (words_of a.live.words g.0.1.1.0) (words_of a.monitor.keeps.words m.1.0.1.1.0) (words_of a.monitor.breaks.words m.1.1.0.1.1.0)
-    c.check_step-outcome.ensures c.in-Ok.is c.stepped-stepped.ensures c.lamp.ensures
+    c.check_step.ensures c.in-Ok.is c.stepped-stepped.ensures c.lamp.ensures
