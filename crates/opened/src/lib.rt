@@ -25,11 +25,10 @@ impl Opened {
     fn refused(refusal: Refusal) -> Self
         ensures { result ≡ not_opened refusal }
     {
-        let rule = Rule::empty();
         Opened {
             outcome: Err(refusal),
             table: Table::EMPTY,
-            rule,
+            rule: Rule::empty(),
             live: Pairs::EMPTY,
             monitor: Monitor::NONE,
         }
@@ -37,15 +36,14 @@ impl Opened {
 }
 
 // Refusals 3, 2 of the table's text, and then 4 to 8 of the rule's.
+#[tactic(auto, using(crate::specs::Lent::lent), unfolding(crate::specs::Opened::opened_of))]
 pub fn open_texts(table: &[u8], rule: &[u8]) -> Opened
     ensures { result ≡ opened_of table.now rule.now }
 {
     let read = plant::read_table(table);
-    let outcome = read.outcome;
-    let table = read.table;
-    match outcome {
+    match read.outcome {
         Err(refusal) => Opened::refused(refusal),
-        Ok(()) => with_table(table, rule),
+        Ok(()) => with_table(read.table, rule),
     }
 }
 
@@ -55,52 +53,42 @@ fn with_table(table: Table, rule: &[u8]) -> Opened
     ensures { result ≡ table_opened table rule.now }
 {
     let plant = table.plant;
-    let just = plant.just;
-    let states = plant.states;
-    let fair = table.fair;
-    let label = table.label;
-    let next = table.next;
     with_parts(
         table,
-        &fair[..just],
-        &label[..states],
-        &next[..states],
+        &table.fair[..plant.just],
+        &table.label[..plant.states],
+        &table.next[..plant.states],
         rule,
     )
 }
 
+#[tactic(auto, unfolding(crate::specs::Opened::parts_opened))]
 fn with_parts(table: Table, fair: &[u64], label: &[u16], next: &[u64], text: &[u8]) -> Opened
     ensures { result ≡ parts_opened table fair.now label.now next.now text.now }
 {
-    let plant = table.plant;
-    let read = rule::read_rule(plant, fair, label, next, text);
-    let outcome = read.outcome;
-    let rule = read.rule;
-    match outcome {
+    let read = rule::read_rule(table.plant, fair, label, next, text);
+    match read.outcome {
         Err(refusal) => Opened::refused(refusal),
-        Ok(()) => with_rule(table, fair, label, next, rule),
+        Ok(()) => with_rule(table, fair, label, next, read.rule),
     }
 }
 
 // What `prepare` accepts, `open` opens.
+#[tactic(auto, unfolding(crate::specs::Opened::rule_opened))]
 fn with_rule(table: Table, fair: &[u64], label: &[u16], next: &[u64], rule: Rule) -> Opened
     ensures { result ≡ rule_opened table fair.now label.now next.now rule }
 {
-    let plant = table.plant;
-    let prepared = live::prepare(plant, fair, label, next, rule);
-    let outcome = prepared.outcome;
-    let live = prepared.live;
-    match outcome {
+    let prepared = live::prepare(table.plant, fair, label, next, rule);
+    match prepared.outcome {
         Err(refusal) => Opened::refused(refusal),
         Ok(()) => {
-            let opened = monitor::open(plant, fair, label, next, rule, live);
-            let monitor = opened.monitor;
+            let opened = monitor::open(table.plant, fair, label, next, rule, prepared.live);
             Opened {
                 outcome: Ok(()),
                 table,
                 rule,
-                live,
-                monitor,
+                live: prepared.live,
+                monitor: opened.monitor,
             }
         }
     }
