@@ -34,7 +34,7 @@ accepted_number e props seen expected g = ((in_turn_says seen expected (numbers.
     accepts (Ok _) = true
     accepts (Err r) = false
 
-    go : (r s : Refusal) (b c : Bool) → cond b (cond c (Ok tt) (Err r)) (Err s) ≡ Ok tt → So c
+    go : (r s : Refusal) (b c : Bool) → ◌≡◌ {A = Outcome} (cond b (cond c (Ok tt) (Err r)) (Err s)) (Ok tt) → So c
     go r s true true h = refl
     go r s true false h = absurd (false≢true (ap accepts h))
     go r s false c h = absurd (false≢true (ap accepts h))

@@ -56,38 +56,13 @@ fn note(
     ensures lefts { lefts.new ≡ set lefts.old at (shown.left % 256) }
     ensures numbers { numbers.new ≡ set numbers.old at number }
 {
-    let verdict = shown.verdict;
-    store(verdicts, at, verdict.number());
+    store(verdicts, at, shown.verdict.number());
     store(lefts, at, (shown.left % 256) as u8);
     store_number(numbers, at, number);
 }
 
-// Where a log went, with its monitor put together.
-fn ended(
-    outcome: Result<(), Refusal>,
-    done: usize,
-    seen: bool,
-    keeps: Pairs,
-    breaks: Pairs,
-    expected: u64,
-) -> Went
-    ensures { result ≡ record { outcome = outcome; done = done; monitor = record { seen = seen; keeps = keeps; breaks = breaks; expected = expected } } }
-{
-    let monitor = Monitor {
-        seen,
-        keeps,
-        breaks,
-        expected,
-    };
-    Went {
-        outcome,
-        done,
-        monitor,
-    }
-}
-
-// The loop. The monitor stands in its parts, so that an event changes the two sets where they are. It stops at the first event that is refused. Of each event
-// taken, what is shown is stored, where there is room.
+// The loop. The monitor is lent to each event, which changes it where it stands. It stops at the first event that is refused. Of each event taken, what is shown is
+// stored, where there is room.
 fn turns(
     plant: Plant,
     label: &[u16],
@@ -104,41 +79,26 @@ fn turns(
     ensures { Followed (course_in plant label.now next.now ways live monitor text.now)
         verdicts.old lefts.old numbers.old verdicts.new lefts.new numbers.new result }
 {
-    let mut seen = monitor.seen;
-    let mut keeps = monitor.keeps;
-    let mut breaks = monitor.breaks;
-    let mut expected = monitor.expected;
+    let mut now = monitor;
     let lines = text.len() / event_log::line_bytes(text, plant.props);
     for n in 0..lines {
         let event = event_log::event_at(text, n, plant.props);
-        let outcome = check_event(event, plant.props, seen, expected);
-        match outcome {
-            Err(refusal) => {
-                return ended(Err(refusal), n, seen, keeps, breaks, expected);
-            }
-            Ok(()) => {
-                let number = take_lent(
-                    label,
-                    next,
-                    &ways.leave,
-                    &ways.enter,
-                    &ways.holds,
-                    ways.count,
-                    &live.words,
-                    seen,
-                    expected,
-                    event,
-                    &mut keeps.words,
-                    &mut breaks.words,
-                );
-                seen = true;
-                expected = number + 1;
-                let shown = lamp_of(&keeps.words, &breaks.words);
-                note(verdicts, lefts, numbers, n, shown, number);
-            }
+        let outcome = check_event(event, plant.props, now.seen, now.expected);
+        if let Err(refusal) = outcome {
+            return Went {
+                outcome: Err(refusal),
+                done: n,
+                monitor: now,
+            };
         }
+        let number = take_lent(label, next, &ways, &live.words, event, &mut now);
+        note(verdicts, lefts, numbers, n, lamp_of(&now), number);
     }
-    ended(Ok(()), lines, seen, keeps, breaks, expected)
+    Went {
+        outcome: Ok(()),
+        done: lines,
+        monitor: now,
+    }
 }
 
 // Of an accepted table and rule, from a live set and a monitor of theirs.

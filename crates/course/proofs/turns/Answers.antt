@@ -1,6 +1,5 @@
 -- `turns`: line after line as the definition goes (`Gone`). Assumes nothing.
 use Rattle.std.proofs.Common.{ℕ, ◌/◌, zero-le, sym, ap, ◌∙◌, div-le_self, arith, length}
-use Rattle.course.specs.Lent.{taken_lent}
 use Rattle.course.proofs.TurnsLaws.{starts, goes_on, stops, accepted_number}
 use Rattle.std.proofs.lemmas.Grind.{common_steps}
 use Rattle.course.proofs.turns.Goals as goal
@@ -14,16 +13,12 @@ loop-n-init c =
 pub returns-in-Err : goal.returns-in-Err
 returns-in-Err c =
     let inv = c.loop-n.invariant in
-    rw c.ended.ensures
-    (stops _ _ _ _ _ _ _ _ _ _ inv.3 c.event_at-event.ensures _ (sym c.check_event-outcome.ensures ∙ c.in-Err.is) (omega (arith, c.loop-n-test.true, inv.2)))
+    stops _ _ _ _ _ _ _ _ _ _ inv.3 c.event_at-event.ensures _ (sym c.check_event-outcome.ensures ∙ c.in-Err.is) (omega (arith, c.loop-n-test.true, inv.2))
 
 pub take_lent-number-requires : goal.take_lent-number-requires
 take_lent-number-requires c =
     let start = c.before.before in
-    (start.requires.0, start.requires.1, accepted_number _ _ _ _ (sym c.check_event-outcome.ensures ∙ c.in-Ok.is))
-
-pub overflow_add-expected : goal.overflow_add-expected
-overflow_add-expected c = grind (arith, common_steps, accepted_number)
+    (start.requires.0, start.requires.1, accepted_number _ _ _ _ (sym c.check_event-outcome.ensures ∙ c.in_default.is))
 
 pub loop-n-preserved : goal.loop-n-preserved
-loop-n-preserved c = grind (arith, common_steps, taken_lent, goes_on)
+loop-n-preserved c = grind (arith, common_steps, goes_on)
