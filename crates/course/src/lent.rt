@@ -18,20 +18,12 @@ use sides::Monitor;
 use sides::opening::split;
 use ways::Ways;
 
-// A set of pairs, moved.
-fn move_set(next: &[u64], ways: &Ways, live: &[u64; 64], agree: u64, held: &mut Pairs)
+// Where a set of pairs leads.
+fn led(next: &[u64], ways: &Ways, live: &[u64; 64], agree: u64, set: &[u64; 64]) -> Pairs
     requires { ways.now.count ≤ 64 }
-    ensures { held.new.words ≡ image_of next.now held.old.words (from_in ways.now.leave) (to_in ways.now.enter) ways.now.count live.now agree }
+    ensures { result.words ≡ image_of next.now set.now (from_in ways.now.leave) (to_in ways.now.enter) ways.now.count live.now agree }
 {
-    *held = image(
-        next,
-        &ways.leave,
-        &ways.enter,
-        ways.count,
-        &held.words,
-        live,
-        agree,
-    );
+    image(next, &ways.leave, &ways.enter, ways.count, set, live, agree)
 }
 
 // Both sets moved as one, and split anew by where the rule holds: a restart.
@@ -50,15 +42,7 @@ fn restart_sets(
         (from_in ways.now.leave) (to_in ways.now.enter) ways.now.count live.now agree) agree ways.now.holds false }
 {
     let both = keeps.join(*breaks);
-    let reached = image(
-        next,
-        &ways.leave,
-        &ways.enter,
-        ways.count,
-        &both.words,
-        live,
-        agree,
-    );
+    let reached = led(next, ways, live, agree, &both.words);
     *keeps = split(&reached.words, agree, &ways.holds, true);
     *breaks = split(&reached.words, agree, &ways.holds, false);
 }
@@ -93,8 +77,8 @@ pub fn take_lent(
             );
             return number;
         }
-        move_set(next, ways, live, agree, &mut monitor.keeps);
-        move_set(next, ways, live, agree, &mut monitor.breaks);
+        monitor.keeps = led(next, ways, live, agree, &monitor.keeps.words);
+        monitor.breaks = led(next, ways, live, agree, &monitor.breaks.words);
         return number;
     }
     *monitor = take(

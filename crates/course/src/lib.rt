@@ -83,8 +83,7 @@ fn turns(
     let lines = text.len() / event_log::line_bytes(text, plant.props);
     for n in 0..lines {
         let event = event_log::event_at(text, n, plant.props);
-        let outcome = check_event(event, plant.props, now.seen, now.expected);
-        if let Err(refusal) = outcome {
+        if let Err(refusal) = check_event(event, plant.props, now.seen, now.expected) {
             return Went {
                 outcome: Err(refusal),
                 done: n,

@@ -13,12 +13,12 @@ loop-n-init c =
 pub returns-in-Err : goal.returns-in-Err
 returns-in-Err c =
     let inv = c.loop-n.invariant in
-    stops _ _ _ _ _ _ _ _ _ _ inv.3 c.event_at-event.ensures _ (sym c.check_event-outcome.ensures ∙ c.in-Err.is) (omega (arith, c.loop-n-test.true, inv.2))
+    stops _ _ _ _ _ _ _ _ _ _ inv.3 c.event_at-event.ensures _ (sym c.check_event.ensures ∙ c.in-Err.is) (omega (arith, c.loop-n-test.true, inv.2))
 
 pub take_lent-number-requires : goal.take_lent-number-requires
 take_lent-number-requires c =
     let start = c.before.before in
-    (start.requires.0, start.requires.1, accepted_number _ _ _ _ (sym c.check_event-outcome.ensures ∙ c.in_default.is))
+    (start.requires.0, start.requires.1, accepted_number _ _ _ _ (sym c.check_event.ensures ∙ c.in_default.is))
 
 pub loop-n-preserved : goal.loop-n-preserved
 loop-n-preserved c = grind (arith, common_steps, goes_on)

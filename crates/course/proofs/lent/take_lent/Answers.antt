@@ -23,4 +23,4 @@ pub returns-then-monitor-clause-taken : goal.returns-then-monitor-clause-taken
 returns-then-monitor-clause-taken c =
     seen_too c.if-monitor.true
     ∙ taken_lent _ _ _ _ _ _ _ c.args.monitor.now c.args.event c.number_of-number.ensures
-    (came_moved _ _ _ _ _ _ _ _ _ _ c.agreeing-agree.ensures (sym c.missing-gap.ensures ∙ c.if-gap-eq0.true) c.if-monitor.true c.if-event.false c.move_set.ensures c.move_set-then-monitor.ensures)
+    (came_moved _ _ _ _ _ _ _ _ _ _ c.agreeing-agree.ensures (sym c.missing-gap.ensures ∙ c.if-gap-eq0.true) c.if-monitor.true c.if-event.false c.led-monitor.ensures c.led-monitor-then-monitor.ensures)
