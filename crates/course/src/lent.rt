@@ -1,12 +1,11 @@
 // An event taken by a monitor that is changed where it is lent. By value a monitor is copied at each call, which was a quarter of an event where few pairs
 // are held.
 ghost use Rattle.std.specs.Prelude.{◌≡◌, true, false, ◌^◌, ◌≤◌, ◌<◌, length};
-ghost use Rattle.pairs.specs.Sets.{join_of};
 ghost use Rattle.moves.specs.Image.{image_of};
 ghost use Rattle.leads.specs.Halves.{from_in, to_in};
 ghost use Rattle.event_numbers.specs.Numbers.{number_of};
 ghost use Rattle.sides.specs.Held.{model_of, lamp_in};
-ghost use Rattle.sides.specs.Sides.{split_of, taken_in};
+ghost use Rattle.sides.specs.Sides.{sides_of, split_of, reached_by, taken_in};
 
 use advance::take;
 use answers::{Lamp, Verdict};
@@ -27,24 +26,16 @@ fn led(next: &[u64], ways: &Ways, live: &[u64; 64], agree: u64, set: &[u64; 64])
 }
 
 // Both sets moved as one, and split anew by where the rule holds: a restart.
-fn restart_sets(
-    next: &[u64],
-    ways: &Ways,
-    live: &[u64; 64],
-    agree: u64,
-    keeps: &mut Pairs,
-    breaks: &mut Pairs,
-)
+fn restart(next: &[u64], ways: &Ways, live: &[u64; 64], agree: u64, monitor: &mut Monitor)
     requires { ways.now.count ≤ 64 }
-    ensures keeps { keeps.new.words ≡ split_of (image_of next.now (join_of keeps.old.words breaks.old.words)
-        (from_in ways.now.leave) (to_in ways.now.enter) ways.now.count live.now agree) agree ways.now.holds true }
-    ensures breaks { breaks.new.words ≡ split_of (image_of next.now (join_of keeps.old.words breaks.old.words)
-        (from_in ways.now.leave) (to_in ways.now.enter) ways.now.count live.now agree) agree ways.now.holds false }
+    ensures { monitor.new ≡ sides_of monitor.old.expected monitor.old.seen
+        (split_of (reached_by next.now ways.now.leave ways.now.enter ways.now.count live.now monitor.old agree) agree ways.now.holds true)
+        (split_of (reached_by next.now ways.now.leave ways.now.enter ways.now.count live.now monitor.old agree) agree ways.now.holds false) }
 {
-    let both = keeps.join(*breaks);
+    let both = monitor.keeps.join(monitor.breaks);
     let reached = led(next, ways, live, agree, &both.words);
-    *keeps = split(&reached.words, agree, &ways.holds, true);
-    *breaks = split(&reached.words, agree, &ways.holds, false);
+    monitor.keeps = split(&reached.words, agree, &ways.holds, true);
+    monitor.breaks = split(&reached.words, agree, &ways.holds, false);
 }
 
 // An event whose number is in turn, behind those that are missing before it; its number is answered. Mostly nothing is missing and it is not the first: then both
@@ -67,14 +58,7 @@ pub fn take_lent(
     if gap == 0 && monitor.seen {
         let agree = labels::agreeing(label, event.see, event.val);
         if event.new {
-            restart_sets(
-                next,
-                ways,
-                live,
-                agree,
-                &mut monitor.keeps,
-                &mut monitor.breaks,
-            );
+            restart(next, ways, live, agree, monitor);
             return number;
         }
         monitor.keeps = led(next, ways, live, agree, &monitor.keeps.words);

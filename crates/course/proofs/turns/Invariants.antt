@@ -1,5 +1,5 @@
 -- `turns`: line after line as the definition goes (`Gone`). Assumes nothing.
-use Rattle.std.proofs.Common.{ℕ, ◌-◌, ◌^◌, ◌≤◌, ◌<◌, ◌≡◌}
+use Rattle.std.proofs.Common.{◌-◌, ◌^◌, ◌≤◌, ◌<◌, ◌≡◌}
 use Rattle.text.specs.Number.{width_of}
 use Rattle.event_log.specs.Read.{whole_lines}
 use Rattle.course.proofs.TurnsLaws.{Gone}
