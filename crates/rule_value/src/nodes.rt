@@ -39,7 +39,6 @@ pub fn is_whole(rule: Rule) -> bool
 }
 
 // Whether each proposition is below `props`.
-
 pub fn all_known(rule: Rule, props: usize) -> bool
     ensures { result ≡ every (known props) (held rule) }
 {
@@ -49,7 +48,6 @@ pub fn all_known(rule: Rule, props: usize) -> bool
 }
 
 // Whether the nodes from the length on are False.
-
 pub fn rest_blank(rule: Rule) -> bool
     ensures { result ≡ every is_false (beyond rule) }
 {

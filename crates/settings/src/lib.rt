@@ -25,7 +25,7 @@ pub struct SheetRefusal {
     pub place: usize,
 }
 
-// An enum holds no reference, so the bytes stand beside the answer.
+// The answer, and beside it the bytes at its spot; none beside a refusal.
 #[derive(Clone, Copy)]
 pub struct Setting<'a> {
     pub answer: Result<Spot, SheetRefusal>,
