@@ -1,21 +1,18 @@
 -- What a whole log is answered and where it ends, by what each check says and by how its course went.
 use Rattle.std.specs.Prelude.{Ok, Err}
-use Prim.Native.Nat.{ℕ, ◌*◌, ◌≤◌, ◌<◌}
+use Prim.Native.Nat.{ℕ, ◌*◌, ◌≤◌}
 use native.Mathlib.Nat.{le_trans}
 use native.Mathlib.Omega.{arith}
 use mathlib.Core.Path.{◌≡◌, refl, sym, ap, subst, ◌∙◌}
 use mathlib.Core.List.{List}
 use lib.Dec.{leb}
 use lib.ListN.{length, length-map}
-use borrow.Author.Tests.{le-leb, lt-leb, leb-true}
+use borrow.Author.Tests.{leb-true}
 use Rattle.answers.specs.declared.Kind.TheVariants.{Room}
-use Rattle.answers.specs.declared.Refusal.{Refusal}
 use Rattle.answers.specs.Results.{Outcome}
-use Rattle.answers.specs.Paper.{refused_at}
 use Rattle.text.specs.Number.{width_of}
 use Rattle.text.specs.Lines.{line_start, start_is, lines_inside}
 use Rattle.syntax.specs.declared.Rule.{Rule}
-use Rattle.event_log.specs.declared.LogRead.{LogRead}
 use Rattle.event_log.specs.Line.{line_fixed}
 use Rattle.event_log.specs.Read.{is_numbered, bytes_in, event_at, whole_lines, log_read}
 use Rattle.event_log.proofs.Promises.{accepted_text}
@@ -37,22 +34,6 @@ use Rattle.controller.specs.Whole.{Says, course_from, log_checked, end_at, heard
 -- ---- the log and the buffer
 
 module _ (props : ℕ) (log : List ℕ) (room : ℕ) where
-  abbrev checked : LogRead → Outcome
-  checked r = and_then r.outcome (unless (leb r.lines room) Room)
-
-  module _ {read : LogRead} (e : read ≡ log_read (width_of props) log) where
-    pub misformed : {r : Refusal} → read.outcome ≡ Err r → Err r ≡ log_checked props log room
-    unfolding log_checked
-    misformed {r} f = subst (λ (x : LogRead). Err r ≡ checked x) e (rw f refl)
-
-    pub short : {r : Refusal} → read.outcome ≡ Ok tt → room < read.lines → r ≡ refused_at Room 0 → Err r ≡ log_checked props log room
-    unfolding log_checked
-    short {r} f few is = subst (λ (x : LogRead). Err r ≡ checked x) e (rw (f, lt-leb _ _ few, is) refl)
-
-    pub enough : read.outcome ≡ Ok tt → read.lines ≤ room → (Ok tt) ≡ log_checked props log room
-    unfolding log_checked
-    enough f much = subst (λ (x : LogRead). (Ok tt) ≡ checked x) e (rw (f, le-leb _ _ much) refl)
-
   -- behind the checks there is a byte for each line
   pub log_fits : {o : Outcome} → o ≡ log_checked props log room → o ≡ Ok tt → whole_lines (width_of props) log ≤ room
   unfolding log_checked
@@ -116,9 +97,6 @@ module _ (o : Opened) (log : List ℕ) where
   }
 
 -- ---- where it ends
-
-pub end_by : (o : Opened) (log : List ℕ) {x y z : Outcome} → x ≡ y → x ≡ z → {r : LogEnd} → r ≡ end_in z o log → r ≡ end_in y o log
-end_by o log e f is = is ∙ ap (λ (x : Outcome). end_in x o log) (sym f ∙ e)
 
 pub end_from_lem : (table rule log : List ℕ) {o : Opened} → o ≡ opened_of table rule → {x : Outcome} → o.outcome ≡ x → {r : LogEnd}
     → r ≡ end_in (and_then x (log_read (width_of o.table.plant.props) log).outcome) o log → r ≡ end_of table rule log

@@ -14,8 +14,7 @@ ghost use Rattle.controller.specs.Whole.{Says, course_from, log_checked, end_at,
 
 use answers::{Kind, Refusal};
 use opened::{Opened, open_texts};
-use pairs::Pairs;
-use plant::{Plant, Table};
+use plant::Table;
 use sides::Monitor;
 use syntax::Rule;
 
@@ -51,34 +50,30 @@ pub struct LogEnd {
 
 // A byte for each event: its verdict's number. Refusals 3, 2; 4 to 8; 12; 11 write nothing, and no byte beyond the last verdict is ever written.
 // The rule's text is taken as it stands: no LF is dropped. No text has a greatest length but the rule.
+#[tactic(auto, unfolding(crate::specs::Whole::heard_of))]
 pub fn watch_log(table: &[u8], rule: &[u8], log: &[u8], verdicts: &mut [u8]) -> LogAnswer
     ensures answer { result ≡ (heard_of table.now rule.now log.now (length verdicts.old)).answer }
     ensures verdicts { verdicts.new ≡ over
         (heard_of table.now rule.now log.now (length verdicts.old)).bytes verdicts.old }
 {
     let opened = open_texts(table, rule);
-    let outcome = opened.outcome;
-    match outcome {
+    match opened.outcome {
         Err(refusal) => LogAnswer::Refused(refusal),
         Ok(()) => with_opened(opened, log, verdicts),
     }
 }
 
 // The form of the log, 12, and then a byte for each of its lines, 11.
+#[tactic(auto, unfolding(crate::specs::Whole::log_checked))]
 fn check_log(log: &[u8], props: usize, room: usize) -> Result<(), Refusal>
     ensures { result ≡ log_checked props log.now room }
 {
     let read = event_log::read_log(log, props);
-    let outcome = read.outcome;
-    match outcome {
-        Err(refusal) => Err(refusal),
-        Ok(()) => {
-            if read.lines <= room {
-                return Ok(());
-            }
-            Err(Refusal::at(Kind::Room, 0))
-        }
+    read.outcome?;
+    if room < read.lines {
+        return Err(Refusal::at(Kind::Room, 0));
     }
+    Ok(())
 }
 
 // With a table and a rule that were accepted.
@@ -87,25 +82,19 @@ fn with_opened(opened: Opened, log: &[u8], verdicts: &mut [u8]) -> LogAnswer
     ensures { Says (heard_in (log_checked opened.table.plant.props log.now (length verdicts.old)) opened log.now)
         verdicts.old verdicts.new result }
 {
-    let table = opened.table;
-    let plant = table.plant;
-    let outcome = check_log(log, plant.props, verdicts.len());
-    match outcome {
+    match check_log(log, opened.table.plant.props, verdicts.len()) {
         Err(refusal) => LogAnswer::Refused(refusal),
-        Ok(()) => {
-            let end = follow_log(opened, log, verdicts);
-            end.answer
-        }
+        Ok(()) => follow_log(opened, log, verdicts).answer,
     }
 }
 
 // What `watch_log` answers with a buffer as long as the log, and what stands behind it. Refusals 3, 2; 4 to 8; 12; then an event's 10 or 16, at the offset of its line.
+#[tactic(auto, unfolding(crate::specs::Whole::end_of))]
 pub fn to_end(table: &[u8], rule: &[u8], log: &[u8]) -> LogEnd
     ensures { result ≡ end_of table.now rule.now log.now }
 {
     let opened = open_texts(table, rule);
-    let outcome = opened.outcome;
-    match outcome {
+    match opened.outcome {
         Err(refusal) => refused(opened, refusal),
         Ok(()) => end_of(opened, log),
     }
@@ -116,14 +105,10 @@ fn end_of(opened: Opened, log: &[u8]) -> LogEnd
     requires { Lent opened.table × Fits opened }
     ensures { result ≡ end_in (log_read (width_of opened.table.plant.props) log.now).outcome opened log.now }
 {
-    let table = opened.table;
-    let plant = table.plant;
-    let read = event_log::read_log(log, plant.props);
-    let outcome = read.outcome;
-    let mut none = [0u8; 0];
-    match outcome {
+    let read = event_log::read_log(log, opened.table.plant.props);
+    match read.outcome {
         Err(refusal) => refused(opened, refusal),
-        Ok(()) => follow_log(opened, log, &mut none),
+        Ok(()) => follow_log(opened, log, &mut [0u8; 0]),
     }
 }
 
@@ -131,14 +116,11 @@ fn end_of(opened: Opened, log: &[u8]) -> LogEnd
 fn refused(opened: Opened, refusal: Refusal) -> LogEnd
     ensures { result ≡ end_refused opened refusal }
 {
-    let table = opened.table;
-    let rule = opened.rule;
-    let last = opened.monitor;
     LogEnd {
         answer: LogAnswer::Refused(refusal),
-        table,
-        rule,
-        last,
+        table: opened.table,
+        rule: opened.rule,
+        last: opened.monitor,
     }
 }
 
@@ -148,41 +130,27 @@ fn follow_log(opened: Opened, log: &[u8], verdicts: &mut [u8]) -> LogEnd
     ensures end { result ≡ end_in (Ok tt) opened log.now }
     ensures verdicts { verdicts.new ≡ laid (verdict_bytes (course_from opened log.now).lamps) verdicts.old }
 {
-    let table: Table = opened.table;
-    let plant: Plant = table.plant;
-    let just = plant.just;
-    let states = plant.states;
-    let fair = table.fair;
-    let label = table.label;
-    let next = table.next;
-    let rule: Rule = opened.rule;
-    let live: Pairs = opened.live;
-    let monitor: Monitor = opened.monitor;
-    let mut lefts = [0u8; 0];
-    let mut numbers = [0u64; 0];
+    let table = opened.table;
+    let plant = table.plant;
     let went = course::follow(
         plant,
-        &fair[..just],
-        &label[..states],
-        &next[..states],
-        rule,
-        live,
-        monitor,
+        &table.fair[..plant.just],
+        &table.label[..plant.states],
+        &table.next[..plant.states],
+        opened.rule,
+        opened.live,
+        opened.monitor,
         log,
         verdicts,
-        &mut lefts,
-        &mut numbers,
+        &mut [0u8; 0],
+        &mut [0u64; 0],
     );
-    let outcome = went.outcome;
-    let done = went.done;
-    let last = went.monitor;
-    let offset = done * event_log::line_bytes(log, plant.props);
-    let answer = answer_at(outcome, done, offset);
+    let offset = went.done * event_log::line_bytes(log, plant.props);
     LogEnd {
-        answer,
+        answer: answer_at(went.outcome, went.done, offset),
         table,
-        rule,
-        last,
+        rule: opened.rule,
+        last: went.monitor,
     }
 }
 
@@ -192,12 +160,9 @@ fn answer_at(outcome: Result<(), Refusal>, done: usize, offset: usize) -> LogAns
 {
     match outcome {
         Ok(()) => LogAnswer::Watched(Events { count: done }),
-        Err(refusal) => {
-            let kind = refusal.kind;
-            LogAnswer::Stopped(Stop {
-                refusal: Refusal::at(kind, offset),
-                event: done,
-            })
-        }
+        Err(refusal) => LogAnswer::Stopped(Stop {
+            refusal: Refusal::at(refusal.kind, offset),
+            event: done,
+        }),
     }
 }
