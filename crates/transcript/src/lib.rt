@@ -32,12 +32,10 @@ pub fn write_output(
     ensures { Put out.old 0 (output_of (file_of planted plant.now) (file_of ruled rule.now) (file_of logged log.now)) out.new result }
 {
     let read = texts::read_plant(planted, plant);
-    let outcome = read.outcome;
-    let table = read.table;
-    match outcome {
-        Err(refusal) => put_refused(out, 0, refusal),
-        Ok(()) => with_table(table, ruled, rule, logged, log, out),
+    if let Err(refusal) = read.outcome {
+        return put_refused(out, 0, refusal);
     }
+    with_table(read.table, ruled, rule, logged, log, out)
 }
 
 // Of the table, as many parts are lent as it counts.
@@ -52,17 +50,11 @@ fn with_table(
     requires { Lent table × (length log.now ≤ 65520) × (229460 ≤ length out.old) }
     ensures { Put out.old 0 (table_text table (file_of ruled rule.now) (file_of logged log.now)) out.new result }
 {
-    let plant = table.plant;
-    let just = plant.just;
-    let states = plant.states;
-    let fair = table.fair;
-    let label = table.label;
-    let next = table.next;
     with_parts(
-        plant,
-        &fair[..just],
-        &label[..states],
-        &next[..states],
+        table.plant,
+        &table.fair[..table.plant.just],
+        &table.label[..table.plant.states],
+        &table.next[..table.plant.states],
         ruled,
         rule,
         logged,
@@ -87,12 +79,10 @@ fn with_parts(
         (file_of ruled text.now) (file_of logged log.now)) out.new result }
 {
     let read = texts::read_rule(plant, fair, label, next, ruled, text);
-    let outcome = read.outcome;
-    let rule = read.rule;
-    match outcome {
-        Err(refusal) => put_refused(out, 0, refusal),
-        Ok(()) => with_rule(plant, fair, label, next, rule, logged, log, out),
+    if let Err(refusal) = read.outcome {
+        return put_refused(out, 0, refusal);
     }
+    with_rule(plant, fair, label, next, read.rule, logged, log, out)
 }
 
 // The form of the log comes before any lamp.
@@ -109,9 +99,8 @@ fn with_rule(
     requires { (length log.now ≤ 65520) × (229460 ≤ length out.old) }
     ensures { Put out.old 0 (log_text plant fair.now label.now next.now rule (file_of ok log.now)) out.new result }
 {
-    let outcome = texts::check_log(ok, log, plant.props);
-    match outcome {
-        Err(refusal) => put_refused(out, 0, refusal),
-        Ok(()) => play::play(plant, fair, label, next, rule, log, out),
+    if let Err(refusal) = texts::check_log(ok, log, plant.props) {
+        return put_refused(out, 0, refusal);
     }
+    play::play(plant, fair, label, next, rule, log, out)
 }

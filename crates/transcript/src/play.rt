@@ -31,12 +31,10 @@ pub fn play(
     ensures { Put out.old 0 (played_text plant fair.now label.now next.now rule log.now) out.new result }
 {
     let prepared = live::prepare(plant, fair, label, next, rule);
-    let outcome = prepared.outcome;
-    let live = prepared.live;
-    match outcome {
-        Err(refusal) => put_refused(out, 0, refusal),
-        Ok(()) => from_start(plant, fair, label, next, rule, live, log, out),
+    if let Err(refusal) = prepared.outcome {
+        return put_refused(out, 0, refusal);
     }
+    from_start(plant, fair, label, next, rule, prepared.live, log, out)
 }
 
 // With the live pairs of an accepted table and rule.
@@ -58,13 +56,22 @@ fn from_start(
         (open_call plant fair.now label.now next.now rule live).monitor log.now)) out.new result }
 {
     let opened = monitor::open(plant, fair, label, next, rule, live);
-    let answer = opened.answer;
-    let monitor = opened.monitor;
-    match answer {
+    match opened.answer {
         Err(refusal) => put_refused(out, 0, refusal),
         Ok(lamp) => {
             let at = put_start(out, lamp);
-            behind_start(plant, fair, label, next, rule, live, monitor, log, at, out)
+            behind_start(
+                plant,
+                fair,
+                label,
+                next,
+                rule,
+                live,
+                opened.monitor,
+                log,
+                at,
+                out,
+            )
         }
     }
 }
@@ -102,10 +109,17 @@ fn behind_start(
         &mut lefts,
         &mut numbers,
     );
-    let outcome = went.outcome;
-    let done = went.done;
-    let offset = done * event_log::line_bytes(log, plant.props);
-    put_went(out, at, outcome, done, &verdicts, &lefts, &numbers, offset)
+    let offset = went.done * event_log::line_bytes(log, plant.props);
+    put_went(
+        out,
+        at,
+        went.outcome,
+        went.done,
+        &verdicts,
+        &lefts,
+        &numbers,
+        offset,
+    )
 }
 
 // The lines of the events taken, and the refusal of the one behind them, whose line is at `offset`.
@@ -133,20 +147,15 @@ fn put_went(
 pub fn at_line(outcome: Result<(), Refusal>, offset: usize) -> Result<(), Refusal>
     ensures { result ≡ at_line outcome offset }
 {
-    match outcome {
-        Ok(()) => Ok(()),
-        Err(refusal) => Err(placed(refusal, offset)),
-    }
+    outcome.map_err(|refusal| placed(refusal, offset))
 }
 
 // An event is refused by 10 or 16 at its line, whose first byte is at `offset`; the call that takes it knows of no line.
 fn placed(refusal: Refusal, offset: usize) -> Refusal
     ensures { result ≡ placed_at refusal offset }
 {
-    let kind = refusal.kind;
-    let number = kind.number();
-    if (number == Kind::ILLEGAL_EVENT) | (number == Kind::NUMBER) {
-        return Refusal::at(kind, offset);
+    if matches!(refusal.kind, Kind::IllegalEvent | Kind::Number) {
+        return Refusal::at(refusal.kind, offset);
     }
     refusal
 }

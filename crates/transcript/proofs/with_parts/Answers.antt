@@ -11,9 +11,9 @@ returns-in-Err c =
     refused_said (λ (r : RuleRead). r.outcome) (λ (r : RuleRead). log_text a.plant a.fair.now a.label.now a.next.now r.rule (file_of a.logged a.log.now))
     c.read_rule-read.ensures c.in-Err.is c.put_refused.ensures
 
-pub returns-in-Ok : goal.returns-in-Ok
+pub returns : goal.returns
 unfolding rule_text
-returns-in-Ok c =
+returns c =
     let a = c.args in
     accepted_said (λ (r : RuleRead). r.outcome) (λ (r : RuleRead). log_text a.plant a.fair.now a.label.now a.next.now r.rule (file_of a.logged a.log.now))
-    c.read_rule-read.ensures c.in-Ok.is c.with_rule.ensures
+    c.read_rule-read.ensures c.in_default.is c.with_rule.ensures

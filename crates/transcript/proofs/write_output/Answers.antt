@@ -9,6 +9,6 @@ pub returns-in-Err : goal.returns-in-Err
 unfolding output_of
 returns-in-Err c = grind (arith, common_steps, table_text, file_of, refused_said)
 
-pub returns-in-Ok : goal.returns-in-Ok
+pub returns : goal.returns
 unfolding output_of
-returns-in-Ok c = grind (arith, common_steps, table_text, file_of, accepted_said)
+returns c = grind (arith, common_steps, table_text, file_of, accepted_said)

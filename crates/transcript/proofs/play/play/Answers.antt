@@ -17,11 +17,11 @@ returns-in-Err c =
     (course_of a.plant a.fair.now a.label.now a.next.now a.rule r.live (open_call a.plant a.fair.now a.label.now a.next.now a.rule r.live).monitor a.log.now))
     c.prepare-prepared.ensures c.in-Err.is c.put_refused.ensures
 
-pub returns-in-Ok : goal.returns-in-Ok
+pub returns : goal.returns
 unfolding played_text
-returns-in-Ok c =
+returns c =
     let a = c.args in
     accepted_said (λ (r : Prepared). r.outcome)
     (λ (r : Prepared). opened_text (bytes_in (width_of a.plant.props) a.log.now) (open_call a.plant a.fair.now a.label.now a.next.now a.rule r.live).answer
     (course_of a.plant a.fair.now a.label.now a.next.now a.rule r.live (open_call a.plant a.fair.now a.label.now a.next.now a.rule r.live).monitor a.log.now))
-    c.prepare-prepared.ensures c.in-Ok.is c.from_start.ensures
+    c.prepare-prepared.ensures c.in_default.is c.from_start.ensures
