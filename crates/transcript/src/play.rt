@@ -11,6 +11,7 @@ ghost use Rattle.lamp_lines.specs.Lines.{byte_lines};
 ghost use Rattle.transcript.specs.Said.{stop_text, behind_text, opened_text, played_text};
 
 use answers::{Answer, Kind, Refusal};
+use course::Went;
 use lamp_lines::{put_lamps, put_refused, put_start};
 use pairs::Pairs;
 use plant::Plant;
@@ -110,34 +111,25 @@ fn behind_start(
         &mut numbers,
     );
     let offset = went.done * event_log::line_bytes(log, plant.props);
-    put_went(
-        out,
-        at,
-        went.outcome,
-        went.done,
-        &verdicts,
-        &lefts,
-        &numbers,
-        offset,
-    )
+    put_went(out, at, &went, &verdicts, &lefts, &numbers, offset)
 }
 
 // The lines of the events taken, and the refusal of the one behind them, whose line is at `offset`.
 fn put_went(
     out: &mut [u8],
     at: usize,
-    outcome: Result<(), Refusal>,
-    done: usize,
+    went: &Went,
     verdicts: &[u8],
     lefts: &[u8],
     numbers: &[u64],
     offset: usize,
 ) -> usize
-    requires { (at ≤ 70) × (done ≤ 3276) × (done ≤ length verdicts.now) × (done ≤ length lefts.now) × (done ≤ length numbers.now) × (229460 ≤ length out.old) }
-    ensures { Put out.old at (byte_lines done verdicts.now lefts.now numbers.now ++ stop_text outcome offset) out.new result }
+    requires { (at ≤ 70) × (went.now.done ≤ 3276) × (went.now.done ≤ length verdicts.now) × (went.now.done ≤ length lefts.now)
+        × (went.now.done ≤ length numbers.now) × (229460 ≤ length out.old) }
+    ensures { Put out.old at (byte_lines went.now.done verdicts.now lefts.now numbers.now ++ stop_text went.now.outcome offset) out.new result }
 {
-    let end = put_lamps(out, at, done, verdicts, lefts, numbers);
-    match outcome {
+    let end = put_lamps(out, at, went.done, verdicts, lefts, numbers);
+    match went.outcome {
         Ok(()) => end,
         Err(refusal) => put_refused(out, end, placed(refusal, offset)),
     }
