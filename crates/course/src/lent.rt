@@ -81,6 +81,7 @@ pub fn take_lent(
 }
 
 // What the lamp shows of a monitor that is lent, as `advance::lamp` does.
+#[tactic(auto, using(pairs::specs::Sets::left_ones), unfolding(model::specs::Monitor::left))]
 pub fn lamp_of(monitor: &Monitor) -> Lamp
     ensures { result ≡ lamp_in (model_of monitor.now) }
 {
