@@ -3,8 +3,7 @@
 
 ghost use Rattle.std.specs.Prelude.{◌≡◌, ◌&&◌, ◌^◌, leb};
 ghost use Rattle.checks.specs.Checks.{pairs_fit};
-ghost use Rattle.sides.specs.Held.{model_of};
-ghost use Rattle.monitor.specs.Calls.{lamp_of, open_call, look_call, step_call};
+ghost use Rattle.monitor.specs.Calls.{open_call, look_call, step_call};
 ghost use Rattle.monitor.specs.Checked.{held_of, caught_of};
 
 use answers::{Answer, Kind, Refusal};
@@ -20,13 +19,6 @@ use syntax::Rule;
 pub struct Watched {
     pub answer: Answer,
     pub monitor: Monitor,
-}
-
-// What the lamp shows.
-fn lamp(monitor: Monitor) -> Answer
-    ensures { result ≡ lamp_of (model_of monitor) }
-{
-    Ok(advance::lamp(monitor))
 }
 
 // Checks 1, 2 and 9: the table, the rule, two sets of pairs, and the number expected.
@@ -80,7 +72,7 @@ pub fn open(
         Ok(()) => {
             let monitor = single_event::opened(plant.start, label, rule, live);
             Watched {
-                answer: lamp(monitor),
+                answer: Ok(advance::lamp(monitor)),
                 monitor,
             }
         }
@@ -161,7 +153,7 @@ pub fn step(
         Ok(()) => {
             let stepped = single_event::stepped(label, next, rule, live, monitor, event);
             Watched {
-                answer: lamp(stepped),
+                answer: Ok(advance::lamp(stepped)),
                 monitor: stepped,
             }
         }

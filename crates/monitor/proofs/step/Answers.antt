@@ -1,5 +1,5 @@
 -- `step`: the checks, and then the new monitor with its lamp. Assumes nothing.
-use Rattle.std.proofs.Common.{rules}
+use Rattle.std.proofs.Common.{ap, Ok, rules}
 use Rattle.checks.proofs.Given.{ready}
 use Rattle.monitor.proofs.Words.{words_of}
 use Rattle.monitor.proofs.Given.{step_given, not_stepped, is_stepped}
@@ -31,4 +31,4 @@ returns-in-Ok c =
     let m = g.1.0.1.1 in
     is_stepped a.plant a.fair.now a.label.now a.next.now a.rule (search rules) a.live a.monitor a.event
     (words_of a.live.words g.0.1.1.0) (words_of a.monitor.keeps.words m.1.0.1.1.0) (words_of a.monitor.breaks.words m.1.1.0.1.1.0)
-    c.check_step.ensures c.in-Ok.is c.stepped-stepped.ensures c.lamp.ensures
+    c.check_step.ensures c.in-Ok.is c.stepped-stepped.ensures (ap Ok c.lamp.ensures)
