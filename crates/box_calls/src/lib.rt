@@ -17,7 +17,7 @@ use monitor::Watched;
 use opened::open_texts;
 pub use parts::{fairs_of, states_of};
 use slate::{Held, held_in};
-use witness::Lengths;
+use walk::Lengths;
 
 // Reads a table and a rule, and opens a monitor in the box, whatever was in it.
 pub fn open(table: &[u8], rule: &[u8], words: &mut [u64; 384]) -> Answer

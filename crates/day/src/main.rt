@@ -39,14 +39,19 @@ fn with_folder<R: Files + Print>(rt: &R, folder: &[u8]) {
 
 // Both sheets, by 14.
 fn with_plant<R: Files + Print>(rt: &R, folder: &[u8], plant: &[u8]) {
+    if with_both(rt, folder, plant).is_none() {
+        refuse(rt, Refusal::at(Kind::File, 0));
+    }
+}
+
+// None at the first that is not there; what lies behind it is not read.
+fn with_both<R: Files + Print>(rt: &R, folder: &[u8], plant: &[u8]) -> Option<()> {
     let mut local = [0u8; SHEET];
     let mut shared = [0u8; SHEET];
-    let local = sheet_in(rt, folder, b"local.txt", &mut local);
-    let shared = sheet_in(rt, folder, b"shared.txt", &mut shared);
-    match (local, shared) {
-        (Some(local), Some(shared)) => with_sheets(rt, folder, plant, local, shared),
-        _ => refuse(rt, Refusal::at(Kind::File, 0)),
-    }
+    let local = sheet_in(rt, folder, b"local.txt", &mut local)?;
+    let shared = sheet_in(rt, folder, b"shared.txt", &mut shared)?;
+    with_sheets(rt, folder, plant, local, shared);
+    Some(())
 }
 
 // The text of a sheet, if it is there.

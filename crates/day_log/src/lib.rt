@@ -4,7 +4,7 @@
 ghost use Rattle.std.specs.Prelude.{◌≡◌};
 ghost use Rattle.day_log.specs.Day.{day_of};
 
-use answers::{Answer, Refusal};
+use answers::Refusal;
 use day_sheet::note;
 use pairs::Pairs;
 use plant::Plant;

@@ -8,7 +8,7 @@ ghost use Rattle.opened.specs.Lent.{Lent};
 ghost use Rattle.scraps.specs.Calls.{longest};
 ghost use Rattle.follow.specs.AtOnce.{events_in, goes_on, bytes_heard, Onward};
 
-use answers::{Answer, Kind, Refusal};
+use answers::{Kind, Refusal};
 use controller::LogAnswer;
 use pairs::Pairs;
 use plant::{Plant, Table};

@@ -26,20 +26,23 @@ fn main(rt: HostRuntime) {
 
 // The four files, by 14, before any of them is looked at.
 fn with_folder<R: Files + Print>(rt: &R, folder: &[u8]) {
+    if with_files(rt, folder).is_none() {
+        refuse(rt, Refusal::at(Kind::File, 0));
+    }
+}
+
+// None at the first that is not there; what lies behind it is not read.
+fn with_files<R: Files + Print>(rt: &R, folder: &[u8]) -> Option<()> {
     let mut plant = [0u8; File::PLANT];
     let mut rule = [0u8; File::RULE];
     let mut log = [0u8; File::LOG];
     let mut report = [0u8; REPORT];
-    let plant = text_in(rt, folder, b"plant.txt", &mut plant);
-    let rule = text_in(rt, folder, b"rule.txt", &mut rule);
-    let log = text_in(rt, folder, b"log.txt", &mut log);
-    let report = text_in(rt, folder, b"report.txt", &mut report);
-    match (plant, rule, log, report) {
-        (Some(plant), Some(rule), Some(log), Some(report)) => {
-            with_text(rt, plant, without_end(rule), log, report)
-        }
-        _ => refuse(rt, Refusal::at(Kind::File, 0)),
-    }
+    let plant = text_in(rt, folder, b"plant.txt", &mut plant)?;
+    let rule = text_in(rt, folder, b"rule.txt", &mut rule)?;
+    let log = text_in(rt, folder, b"log.txt", &mut log)?;
+    let report = text_in(rt, folder, b"report.txt", &mut report)?;
+    with_text(rt, plant, without_end(rule), log, report);
+    Some(())
 }
 
 // The text of a file, if it is there.

@@ -6,12 +6,10 @@ mod rows;
 
 ghost use Rattle.opened.specs.Lent.{Lent};
 
-use answers::Refusal;
 use fixed_machine::{Size, make_machine};
-use plant::{Plant, Table, TableRead};
+use plant::{Plant, Table};
 use program::given::{read_plant, read_rule};
 use program::said::refuse;
-use rule_text::RuleRead;
 use std::rt::Files;
 use syntax::Rule;
 

@@ -7,7 +7,6 @@ mod play;
 
 ghost use Rattle.std.specs.Prelude.{◌≤◌, length};
 
-use answers::Refusal;
 use files::File;
 use monitor::Monitor;
 use plant::Plant;

@@ -5,7 +5,7 @@ ghost use Rattle.std.specs.Prelude.{◌≡◌, ◌+◌, ◌≤◌, length};
 ghost use Rattle.course.specs.Laid.{laid};
 ghost use Rattle.scraps.specs.Calls.{held_outcome, lines_in, part_fits, room_outcome, kept_outcome, take_outcome, heard_answer, take_call, finish_call};
 
-use answers::{Answer, Kind, Refusal};
+use answers::{Kind, Refusal};
 use controller::{Events, LogAnswer, Stop};
 use pairs::Pairs;
 use plant::Plant;
@@ -64,10 +64,11 @@ fn check_kept(
     ensures { result ≡ kept_outcome plant fair.now label.now next.now rule live radio }
 {
     check_held(plant, fair, label, next, rule, live, radio.monitor)?;
-    if !part_fits(radio, plant.props) {
-        return Err(Refusal::at(Kind::Value, 0));
+    if part_fits(radio, plant.props) {
+        radio.standing
+    } else {
+        Err(Refusal::at(Kind::Value, 0))
     }
-    radio.standing
 }
 
 // How many line ends a scrap has.
@@ -179,8 +180,9 @@ pub fn finish(
     ensures { result ≡ finish_call plant fair.now label.now next.now rule live radio }
 {
     check_kept(plant, fair, label, next, rule, live, radio)?;
-    if radio.len != 0 {
-        return Err(Refusal::at(Kind::LogText, radio.start + radio.len));
+    if radio.len == 0 {
+        Ok(())
+    } else {
+        Err(Refusal::at(Kind::LogText, radio.start + radio.len))
     }
-    Ok(())
 }

@@ -4,8 +4,7 @@
 ghost use Rattle.std.specs.Prelude.{◌≤◌, length};
 ghost use Rattle.opened.specs.Lent.{Lent};
 
-use answers::Refusal;
-use plant::{Table, TableRead};
+use plant::Table;
 use plant_writer::Length;
 use program::given::read_plant;
 use program::said::{put, refuse};

@@ -13,7 +13,7 @@ ghost use Rattle.told.specs.Told.{refused_by, stopped_by, shown_as, heard_as, en
 use answers::{Lamp, Refusal};
 use closing::Closed;
 use controller::{LogAnswer, Stop};
-use witness::Lengths;
+use walk::Lengths;
 
 // Number 0: accepted. Else the refusal's, with its place. The header has the same struct.
 #[repr(C)]

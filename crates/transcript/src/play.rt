@@ -10,7 +10,7 @@ ghost use Rattle.transcript.specs.Place.{placed_at, at_line};
 ghost use Rattle.lamp_lines.specs.Lines.{byte_lines};
 ghost use Rattle.transcript.specs.Said.{stop_text, behind_text, opened_text, played_text};
 
-use answers::{Answer, Kind, Refusal};
+use answers::{Kind, Refusal};
 use course::Went;
 use lamp_lines::{put_lamps, put_refused, put_start};
 use pairs::Pairs;

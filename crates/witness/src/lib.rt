@@ -8,7 +8,7 @@ ghost use Rattle.model.specs.Monitor as model;
 ghost use Rattle.sides.specs.Held.{model_of};
 ghost use Rattle.witness.specs.Calls.{asked_of, Answered};
 
-use answers::{Answer, Kind, Refusal};
+use answers::{Kind, Refusal};
 use monitor::Monitor;
 use pairs::Pairs;
 use plant::Plant;

@@ -18,25 +18,25 @@ returns-then-work-lt-WORDS c =
     let a = c.args in
     machined_refused a.plant a.fair.now a.label.now a.next.now a.rule a.work.now a.machine.now
     (outcome_room a.plant a.fair.now a.label.now a.next.now a.rule _ c.if-plant-gt-PROPS.false
-    (outcome_prepared a.plant a.fair.now a.label.now a.next.now a.rule c.prepare-prepared.ensures c.in-Ok.is) c.if-work-lt-WORDS.true) c.at-then-work-lt-WORDS.ensures
+    (outcome_prepared a.plant a.fair.now a.label.now a.next.now a.rule c.prepare-prepared.ensures c.in_ok-prepared.was) c.if-work-lt-WORDS.true) c.at-then-work-lt-WORDS.ensures
 
 pub work_on-requires : goal.work_on-requires
 work_on-requires c =
     let a = c.args in
-    let ok = outcome_prepared a.plant a.fair.now a.label.now a.next.now a.rule c.prepare-prepared.ensures c.in-Ok.is in
+    let ok = outcome_prepared a.plant a.fair.now a.label.now a.next.now a.rule c.prepare-prepared.ensures c.in_ok-prepared.was in
     (ready ((input_accepted a.plant a.fair.now a.label.now a.next.now a.rule (search rules)).0 ok), c.if-work-lt-WORDS.false)
 
-pub returns-in-Err : goal.returns-in-Err
-returns-in-Err c =
+pub returns-in_err-prepared : goal.returns-in_err-prepared
+returns-in_err-prepared c =
     let a = c.args in
     machined_refused a.plant a.fair.now a.label.now a.next.now a.rule a.work.now a.machine.now
     (outcome_input a.plant a.fair.now a.label.now a.next.now a.rule _ c.if-plant-gt-PROPS.false
-    (outcome_prepared a.plant a.fair.now a.label.now a.next.now a.rule c.prepare-prepared.ensures c.in-Err.is)) refl
+    (outcome_prepared a.plant a.fair.now a.label.now a.next.now a.rule c.prepare-prepared.ensures c.in_err-prepared.was)) refl
 
-pub returns-else-work-lt-WORDS : goal.returns-else-work-lt-WORDS
-returns-else-work-lt-WORDS c =
+pub returns : goal.returns
+returns c =
     let a = c.args in
-    let ok = outcome_prepared a.plant a.fair.now a.label.now a.next.now a.rule c.prepare-prepared.ensures c.in-Ok.is in
+    let ok = outcome_prepared a.plant a.fair.now a.label.now a.next.now a.rule c.prepare-prepared.ensures c.in_ok-prepared.was in
     let given = (input_accepted a.plant a.fair.now a.label.now a.next.now a.rule (search rules)).0 ok in
     machined_made a.plant a.fair.now a.label.now a.next.now a.rule given c.if-plant-gt-PROPS.false a.work.now
     (outcome_good a.plant a.fair.now a.label.now a.next.now a.rule _ c.if-plant-gt-PROPS.false ok c.if-work-lt-WORDS.false)

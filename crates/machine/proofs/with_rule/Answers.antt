@@ -10,4 +10,4 @@ show_machine-requires g c =
     let new = c.make_machine-made.new.machine in
     let long : length new ≡ 14336 = search rules in
     made_within given.plant given.fair.now given.label.now given.next.now given.rule (replicate 49152 0) c.make_machine-made.new.work
-    (replicate 14336 0) new _ _ c.in-Rows.is (long ∙ sym (length-replicate {A = ℕ} 14336 0)) c.make_machine-made.ensures
+    (replicate 14336 0) new _ _ c.in-Ok.is (long ∙ sym (length-replicate {A = ℕ} 14336 0)) c.make_machine-made.ensures

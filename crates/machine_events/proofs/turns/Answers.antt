@@ -16,4 +16,4 @@ pub loop-n-preserved : goal.loop-n-preserved
 loop-n-preserved c =
     let loop = c.loop-n in
     let a = c.args in
-    goes_on _ _ _ _ _ loop.invariant (found_of a.machine.now a.props a.events.now loop.n loop.at c.event_of.ensures c.look_in.ensures c.in-Row.is) (omega (arith, c.requires.1)) refl refl
+    goes_on _ _ _ _ _ loop.invariant (found_of a.machine.now a.props a.events.now loop.n loop.at c.event_of.ensures c.look_in.ensures c.in-Ok.is) (omega (arith, c.requires.1)) refl refl

@@ -9,10 +9,10 @@ at_end-requires c =
     let a = c.args in
     (end_lent a.table.now a.rule.now a.log.now c.to_end-end.ensures, end_short a.table.now a.rule.now a.log.now c.to_end-end.ensures, c.requires)
 
-pub returns-in-Err : goal.returns-in-Err
-returns-in-Err c =
+pub returns-in-Refused : goal.returns-in-Refused
+returns-in-Refused c =
     let a = c.args in
-    end_judged a.table.now a.rule.now a.log.now a.report c.to_end-end.ensures c.in-Err.is refl
+    end_judged a.table.now a.rule.now a.log.now a.report c.to_end-end.ensures c.in-Refused.is refl
 
 pub returns-in-Stopped : goal.returns-in-Stopped
 returns-in-Stopped c =

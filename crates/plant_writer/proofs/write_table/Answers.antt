@@ -7,12 +7,12 @@ use Rattle.plant_writer.proofs.write_table.Goals as goal
 pub put_table-bytes-requires : goal.put_table-bytes-requires
 put_table-bytes-requires c =
     let a = c.args in
-    writable a.plant a.fair.now a.label.now a.next.now (sym c.check_table.ensures ∙ c.in-Ok.is) _ (search rules)
+    writable a.plant a.fair.now a.label.now a.next.now (sym c.check_table.ensures ∙ c.in_ok-check_table.was) _ (search rules)
 
-pub returns-else-buffer-bytes : goal.returns-else-buffer-bytes
-returns-else-buffer-bytes c =
+pub returns : goal.returns
+returns c =
     let a = c.args in
     let p = c.put_table-bytes.ensures in
     let (long, laid) = put_over (rw (put_start_lem p) at c.put_text.ensures) in
-    let f = fitting a.plant a.fair.now a.label.now a.next.now a.buffer.now (sym c.check_table.ensures ∙ c.in-Ok.is) (omega (arith, c.if-buffer-bytes.false, (put_over p).0)) _ _ (put_over p).0 laid in
+    let f = fitting a.plant a.fair.now a.label.now a.next.now a.buffer.now (sym c.check_table.ensures ∙ c.in_ok-check_table.was) (omega (arith, c.if-buffer-bytes.false, (put_over p).0)) _ _ (put_over p).0 laid in
     record { answer = f.0; buffer = f.1 }

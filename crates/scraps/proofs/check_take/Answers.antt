@@ -6,19 +6,19 @@ use Rattle.scraps.proofs.check_take.Goals as goal
 pub overflow_add-radio : goal.overflow_add-radio
 overflow_add-radio c =
     let a = c.args in
-    record { fits = omega (arith, few_taken a.plant a.fair.now a.label.now a.next.now a.rule a.live a.radio (sym c.check_kept.ensures ∙ c.in-Ok.is)) }
+    record { fits = omega (arith, few_taken a.plant a.fair.now a.label.now a.next.now a.rule a.live a.radio (sym c.check_kept.ensures ∙ c.in_ok-check_kept.was)) }
 
 pub check_room-requires : goal.check_room-requires
 check_room-requires c =
     let a = c.args in
-    few_taken a.plant a.fair.now a.label.now a.next.now a.rule a.live a.radio (sym c.check_kept.ensures ∙ c.in-Ok.is)
+    few_taken a.plant a.fair.now a.label.now a.next.now a.rule a.live a.radio (sym c.check_kept.ensures ∙ c.in_ok-check_kept.was)
 
-pub returns-in-Err : goal.returns-in-Err
-returns-in-Err c =
+pub returns-in_err-check_kept : goal.returns-in_err-check_kept
+returns-in_err-check_kept c =
     let a = c.args in
-    take_refused a.plant a.fair.now a.label.now a.next.now a.rule a.live a.radio a.scrap.now a.room c.check_kept.ensures c.in-Err.is
+    take_refused a.plant a.fair.now a.label.now a.next.now a.rule a.live a.radio a.scrap.now a.room c.check_kept.ensures c.in_err-check_kept.was
 
-pub returns-in-Ok : goal.returns-in-Ok
-returns-in-Ok c =
+pub returns : goal.returns
+returns c =
     let a = c.args in
-    take_passes a.plant a.fair.now a.label.now a.next.now a.rule a.live a.radio a.scrap.now a.room c.check_kept.ensures c.in-Ok.is c.check_room.ensures
+    take_passes a.plant a.fair.now a.label.now a.next.now a.rule a.live a.radio a.scrap.now a.room c.check_kept.ensures c.in_ok-check_kept.was c.check_room.ensures

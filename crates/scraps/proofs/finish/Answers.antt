@@ -6,19 +6,19 @@ use Rattle.scraps.proofs.finish.Goals as goal
 pub returns-then-radio-eq0 : goal.returns-then-radio-eq0
 returns-then-radio-eq0 c =
     let a = c.args in
-    end_whole a.plant a.fair.now a.label.now a.next.now a.rule a.live a.radio c.check_kept.ensures c.in-Ok.is c.if-radio-eq0.true
+    end_whole a.plant a.fair.now a.label.now a.next.now a.rule a.live a.radio c.check_kept.ensures c.in_ok-check_kept.was c.if-radio-eq0.true
 
 pub overflow_add-radio : goal.overflow_add-radio
 overflow_add-radio c =
     let a = c.args in
-    record { fits = omega (arith, few_taken a.plant a.fair.now a.label.now a.next.now a.rule a.live a.radio (sym c.check_kept.ensures ∙ c.in-Ok.is)) }
+    record { fits = omega (arith, few_taken a.plant a.fair.now a.label.now a.next.now a.rule a.live a.radio (sym c.check_kept.ensures ∙ c.in_ok-check_kept.was)) }
 
-pub returns-in-Err : goal.returns-in-Err
-returns-in-Err c =
+pub returns-in_err-check_kept : goal.returns-in_err-check_kept
+returns-in_err-check_kept c =
     let a = c.args in
-    end_refused a.plant a.fair.now a.label.now a.next.now a.rule a.live a.radio c.check_kept.ensures c.in-Err.is
+    end_refused a.plant a.fair.now a.label.now a.next.now a.rule a.live a.radio c.check_kept.ensures c.in_err-check_kept.was
 
 pub returns-else-radio-eq0 : goal.returns-else-radio-eq0
 returns-else-radio-eq0 c =
     let a = c.args in
-    end_part a.plant a.fair.now a.label.now a.next.now a.rule a.live a.radio c.check_kept.ensures c.in-Ok.is c.if-radio-eq0.false c.at.ensures
+    end_part a.plant a.fair.now a.label.now a.next.now a.rule a.live a.radio c.check_kept.ensures c.in_ok-check_kept.was c.if-radio-eq0.false c.at.ensures

@@ -7,5 +7,5 @@ pub show_text-requires : goal.show_text-requires
 show_text-requires g c =
     let t = c.args.table in
     let fits = written t.plant (take t.plant.just t.fair) (take t.plant.states t.label) (take t.plant.states t.next) (replicate 2477 0) _
-    (sym c.write_table-wrote.ensures.answer ∙ c.in-Text.is) in
+    (sym c.write_table-wrote.ensures.answer ∙ c.in-Ok.is) in
     omega (arith, fits.most)

@@ -5,15 +5,15 @@ use Rattle.witness.proofs.check_asked.Goals as goal
 pub returns-then-room-lt-ROOM : goal.returns-then-room-lt-ROOM
 returns-then-room-lt-ROOM c =
     let a = c.args in
-    no_room a.plant a.fair.now a.label.now a.next.now a.rule a.monitor c.look-looked.ensures a.room c.in-Ok.is
+    no_room a.plant a.fair.now a.label.now a.next.now a.rule a.monitor c.look.ensures a.room c.in_ok-look.was
     c.if-room-lt-ROOM.true c.at.ensures
 
-pub returns-in-Err : goal.returns-in-Err
-returns-in-Err c =
+pub returns-in_err-look : goal.returns-in_err-look
+returns-in_err-look c =
     let a = c.args in
-    not_looked a.plant a.fair.now a.label.now a.next.now a.rule a.monitor c.look-looked.ensures a.room c.in-Err.is
+    not_looked a.plant a.fair.now a.label.now a.next.now a.rule a.monitor c.look.ensures a.room c.in_err-look.was
 
-pub returns-else-room-lt-ROOM : goal.returns-else-room-lt-ROOM
-returns-else-room-lt-ROOM c =
+pub returns : goal.returns
+returns c =
     let a = c.args in
-    room_enough a.plant a.fair.now a.label.now a.next.now a.rule a.monitor c.look-looked.ensures a.room c.in-Ok.is c.if-room-lt-ROOM.false
+    room_enough a.plant a.fair.now a.label.now a.next.now a.rule a.monitor c.look.ensures a.room c.in_ok-look.was c.if-room-lt-ROOM.false

@@ -7,16 +7,16 @@ pub write_run-requires : goal.write_run-requires
 write_run-requires c =
     let a = c.args in
     in_order a.plant a.fair.now a.label.now a.next.now a.rule a.monitor (search rules) a.keeps a.buffer.now
-    c.check_asked-outcome.ensures c.in-Ok.is
+    c.check_asked.ensures c.in_ok-check_asked.was
 
-pub returns-in-Err : goal.returns-in-Err
-returns-in-Err c =
+pub returns-in_err-check_asked : goal.returns-in_err-check_asked
+returns-in_err-check_asked c =
     let a = c.args in
     not_asked a.plant a.fair.now a.label.now a.next.now a.rule a.monitor (search rules) a.keeps a.buffer.now
-    c.check_asked-outcome.ensures c.in-Err.is
+    c.check_asked.ensures c.in_err-check_asked.was
 
-pub returns-in-Ok : goal.returns-in-Ok
-returns-in-Ok c =
+pub returns : goal.returns
+returns c =
     let a = c.args in
     answered a.plant a.fair.now a.label.now a.next.now a.rule a.monitor (search rules) a.keeps a.buffer.now
-    c.check_asked-outcome.ensures c.in-Ok.is _ _ c.side-asked.ensures c.write_run.ensures
+    c.check_asked.ensures c.in_ok-check_asked.was _ _ c.side-asked.ensures c.write_run.ensures
