@@ -310,7 +310,7 @@ module _ (p : Plant) (fair label next : List ℕ) (rule : Rule) (known : Pairs) 
       refusal_in (Ok l) = r
       refusal_in (Err q) = q
 
-      same : {q : Refusal} → Err q ≡ Err r → refused_with q m s ≡ refused_with r m s
+      same : {q : Refusal} → ◌≡◌ {A = Answer} (Err q) (Err r) → refused_with q m s ≡ refused_with r m s
       same g = ap (λ (x : Refusal). refused_with x m s) (ap refusal_in g)
 
       by_full : (l : Lamp) (b : Bool) (new : DaySheet) → (note_by w (Ok l) b m s (λ v. new)).answer ≡ Err r → note_by w (Ok l) b m s (λ v. new) ≡ refused_with r m s

@@ -1,4 +1,5 @@
 -- `check_kept`: 1, 2, 9, and then what stands. Assumes nothing.
+use Rattle.std.proofs.Common.{rules}
 use Rattle.scraps.specs.Laws.{kept_held, kept_stands, kept_not}
 use Rattle.scraps.proofs.check_kept.Goals as goal
 
@@ -10,7 +11,9 @@ returns-then-part_fits c =
 pub returns-in_err-check_held : goal.returns-in_err-check_held
 returns-in_err-check_held c =
     let a = c.args in
-    kept_held a.plant a.fair.now a.label.now a.next.now a.rule a.live a.radio c.check_held.ensures c.in_err-check_held.was
+    let refused =
+        kept_held a.plant a.fair.now a.label.now a.next.now a.rule a.live a.radio c.check_held.ensures c.in_err-check_held.was in
+    search rules
 
 pub returns-else-part_fits : goal.returns-else-part_fits
 returns-else-part_fits c =

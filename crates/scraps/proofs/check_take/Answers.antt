@@ -1,5 +1,5 @@
 -- `check_take`: what is kept, and then the room. Assumes nothing.
-use Rattle.std.proofs.Common.{sym, ◌∙◌, arith}
+use Rattle.std.proofs.Common.{sym, ◌∙◌, arith, rules}
 use Rattle.scraps.specs.Laws.{few_taken, take_refused, take_passes}
 use Rattle.scraps.proofs.check_take.Goals as goal
 
@@ -16,7 +16,9 @@ check_room-requires c =
 pub returns-in_err-check_kept : goal.returns-in_err-check_kept
 returns-in_err-check_kept c =
     let a = c.args in
-    take_refused a.plant a.fair.now a.label.now a.next.now a.rule a.live a.radio a.scrap.now a.room c.check_kept.ensures c.in_err-check_kept.was
+    let refused =
+        take_refused a.plant a.fair.now a.label.now a.next.now a.rule a.live a.radio a.scrap.now a.room c.check_kept.ensures c.in_err-check_kept.was in
+    search rules
 
 pub returns : goal.returns
 returns c =

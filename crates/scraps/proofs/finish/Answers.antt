@@ -1,5 +1,5 @@
 -- `finish`: what is kept, and then whether a line is not whole. Assumes nothing.
-use Rattle.std.proofs.Common.{sym, ◌∙◌, arith}
+use Rattle.std.proofs.Common.{sym, ◌∙◌, arith, rules}
 use Rattle.scraps.specs.Laws.{few_taken, end_refused, end_whole, end_part}
 use Rattle.scraps.proofs.finish.Goals as goal
 
@@ -16,7 +16,9 @@ overflow_add-radio c =
 pub returns-in_err-check_kept : goal.returns-in_err-check_kept
 returns-in_err-check_kept c =
     let a = c.args in
-    end_refused a.plant a.fair.now a.label.now a.next.now a.rule a.live a.radio c.check_kept.ensures c.in_err-check_kept.was
+    let refused =
+        end_refused a.plant a.fair.now a.label.now a.next.now a.rule a.live a.radio c.check_kept.ensures c.in_err-check_kept.was in
+    search rules
 
 pub returns-else-radio-eq0 : goal.returns-else-radio-eq0
 returns-else-radio-eq0 c =

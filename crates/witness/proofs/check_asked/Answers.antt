@@ -1,4 +1,5 @@
 -- `check_asked`: what a look at the monitor refuses, and then the room.
+use Rattle.std.proofs.Common.{rules}
 use Rattle.witness.proofs.Given.{not_looked, no_room, room_enough}
 use Rattle.witness.proofs.check_asked.Goals as goal
 
@@ -11,7 +12,9 @@ returns-then-room-lt-ROOM c =
 pub returns-in_err-look : goal.returns-in_err-look
 returns-in_err-look c =
     let a = c.args in
-    not_looked a.plant a.fair.now a.label.now a.next.now a.rule a.monitor c.look.ensures a.room c.in_err-look.was
+    let refused =
+        not_looked a.plant a.fair.now a.label.now a.next.now a.rule a.monitor c.look.ensures a.room c.in_err-look.was in
+    search rules
 
 pub returns : goal.returns
 returns c =
