@@ -35,7 +35,7 @@ use Rattle.scraps.specs.Calls.{longest, lines_in, room_outcome, heard_answer, to
 use Rattle.scraps.specs.Laws.{take_parts, fit}
 use Rattle.follow.specs.AtOnce.{events_in, goes_on, bytes_heard}
 
-refused_not : {r : Refusal} → Err r ≡ Ok tt → ⊥
+refused_not : {r : Refusal} → ◌≡◌ {A = Outcome} (Err r) (Ok tt) → ⊥
 refused_not e = false≢true (ap is_accepted e)
 
 module _ (w : ℕ) (step : Monitor → Event → Watched) where
