@@ -30,9 +30,9 @@ pub returns-in_err-prepared : goal.returns-in_err-prepared
 returns-in_err-prepared c =
     let a = c.args in
     let refused =
-        machined_refused a.plant a.fair.now a.label.now a.next.now a.rule a.work.now a.machine.now
-        (outcome_input a.plant a.fair.now a.label.now a.next.now a.rule _ c.if-plant-gt-PROPS.false
-        (outcome_prepared a.plant a.fair.now a.label.now a.next.now a.rule c.prepare-prepared.ensures c.in_err-prepared.was)) refl in
+    machined_refused a.plant a.fair.now a.label.now a.next.now a.rule a.work.now a.machine.now
+    (outcome_input a.plant a.fair.now a.label.now a.next.now a.rule _ c.if-plant-gt-PROPS.false
+    (outcome_prepared a.plant a.fair.now a.label.now a.next.now a.rule c.prepare-prepared.ensures c.in_err-prepared.was)) refl in
     search rules
 
 pub returns : goal.returns

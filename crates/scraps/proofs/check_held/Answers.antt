@@ -7,8 +7,8 @@ pub returns-in_err-look : goal.returns-in_err-look
 returns-in_err-look c =
     let a = c.args in
     let refused =
-        held_refused a.plant a.fair.now a.label.now a.next.now a.rule a.live a.monitor (search rules) (search rules)
-        c.join.ensures c.look.ensures c.in_err-look.was in
+    held_refused a.plant a.fair.now a.label.now a.next.now a.rule a.live a.monitor (search rules) (search rules)
+    c.join.ensures c.look.ensures c.in_err-look.was in
     search rules
 
 pub returns : goal.returns

@@ -12,7 +12,7 @@ pub returns-in_err-check_held : goal.returns-in_err-check_held
 returns-in_err-check_held c =
     let a = c.args in
     let refused =
-        kept_held a.plant a.fair.now a.label.now a.next.now a.rule a.live a.radio c.check_held.ensures c.in_err-check_held.was in
+    kept_held a.plant a.fair.now a.label.now a.next.now a.rule a.live a.radio c.check_held.ensures c.in_err-check_held.was in
     search rules
 
 pub returns-else-part_fits : goal.returns-else-part_fits

@@ -17,7 +17,7 @@ pub returns-in_err-check_kept : goal.returns-in_err-check_kept
 returns-in_err-check_kept c =
     let a = c.args in
     let refused =
-        take_refused a.plant a.fair.now a.label.now a.next.now a.rule a.live a.radio a.scrap.now a.room c.check_kept.ensures c.in_err-check_kept.was in
+    take_refused a.plant a.fair.now a.label.now a.next.now a.rule a.live a.radio a.scrap.now a.room c.check_kept.ensures c.in_err-check_kept.was in
     search rules
 
 pub returns : goal.returns

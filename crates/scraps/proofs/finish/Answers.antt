@@ -17,7 +17,7 @@ pub returns-in_err-check_kept : goal.returns-in_err-check_kept
 returns-in_err-check_kept c =
     let a = c.args in
     let refused =
-        end_refused a.plant a.fair.now a.label.now a.next.now a.rule a.live a.radio c.check_kept.ensures c.in_err-check_kept.was in
+    end_refused a.plant a.fair.now a.label.now a.next.now a.rule a.live a.radio c.check_kept.ensures c.in_err-check_kept.was in
     search rules
 
 pub returns-else-radio-eq0 : goal.returns-else-radio-eq0

@@ -13,7 +13,7 @@ pub returns-in_err-look : goal.returns-in_err-look
 returns-in_err-look c =
     let a = c.args in
     let refused =
-        not_looked a.plant a.fair.now a.label.now a.next.now a.rule a.monitor c.look.ensures a.room c.in_err-look.was in
+    not_looked a.plant a.fair.now a.label.now a.next.now a.rule a.monitor c.look.ensures a.room c.in_err-look.was in
     search rules
 
 pub returns : goal.returns

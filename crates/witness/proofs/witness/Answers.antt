@@ -13,8 +13,8 @@ pub returns-in_err-check_asked : goal.returns-in_err-check_asked
 returns-in_err-check_asked c =
     let a = c.args in
     let refused =
-        not_asked a.plant a.fair.now a.label.now a.next.now a.rule a.monitor (search rules) a.keeps a.buffer.now
-        c.check_asked.ensures c.in_err-check_asked.was in
+    not_asked a.plant a.fair.now a.label.now a.next.now a.rule a.monitor (search rules) a.keeps a.buffer.now
+    c.check_asked.ensures c.in_err-check_asked.was in
     search rules
 
 pub returns : goal.returns
