@@ -56,7 +56,7 @@ use Rattle.event_numbers.specs.Numbers.{number_of, in_turn, in_turn_says}
 use Rattle.live.specs.Prepare.{prepared_of}
 use Rattle.live.specs.Promises.{prepare_outcome}
 use Rattle.monitor.specs.Calls.{watched, lit, checked_of, open_call, monitor_fits, look_call, step_checked, step_call}
-use Rattle.walk.specs.declared.Lengths.{Lengths}
+use Rattle.walk.specs.declared.Lengths.{Lengths as RunLengths}
 use Rattle.answers.specs.declared.Refusal.{Refusal}
 use Rattle.witness.specs.Calls.{AnsweredAs, Answered, asked_of, witness_outcome}
 use Rattle.witness.specs.OnPaper.{witnessed}
@@ -93,8 +93,8 @@ lit_tells : (o : Outcome) (m : model.Monitor) → Tells (paper (lit o m)) o
 lit_tells (Ok _) m = verdict_taken _ _
 lit_tells (Err r) m = refl
 
-answered_tells : (T : run.Plant) (f : Formula) (asked before now : List ℕ) (r : Result Lengths Refusal) (o : Outcome) → AnsweredAs T f asked o before now r → Tells (witnessed r) o
-answered_tells T f asked before now r (Ok _) (l, e, shows) = subst (λ (r : Result Lengths Refusal). Taken (witnessed r)) (sym e) (accepted_taken _)
+answered_tells : (T : run.Plant) (f : Formula) (asked before now : List ℕ) (r : Result RunLengths Refusal) (o : Outcome) → AnsweredAs T f asked o before now r → Tells (witnessed r) o
+answered_tells T f asked before now r (Ok _) (l, e, shows) = subst (λ (r : Result RunLengths Refusal). Taken (witnessed r)) (sym e) (accepted_taken _)
 answered_tells T f asked before now r (Err x) (e, same) = ap witnessed e
 
 -- 1 AND 2, OF EVERY CALL THAT TAKES A TABLE
@@ -135,7 +135,7 @@ module _ (p : Plant) (fair label next : List ℕ) (rule : Rule) where
   Answers (opening live) a = a ≡ paper (open_call p fair label next rule live).answer
   Answers (look m) a = a ≡ paper (look_call p fair label next rule m)
   Answers (step live m e) a = a ≡ paper (step_call p fair label next rule live m e).answer
-  Answers (witness m keeps buffer) a = (r : Result Lengths Refusal) × (now : List ℕ) × Answered p fair label next rule m keeps buffer now r × (a ≡ witnessed r)
+  Answers (witness m keeps buffer) a = (r : Result RunLengths Refusal) × (now : List ℕ) × Answered p fair label next rule m keeps buffer now r × (a ≡ witnessed r)
 
   abbrev T : run.Plant
   T = table p fair label next rule

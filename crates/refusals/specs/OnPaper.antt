@@ -2,7 +2,7 @@
 use Rattle.std.specs.Prelude.{◌≡◌, Result, Ok, Err}
 use Rattle.std.proofs.Common.{sym, ap}
 use Rattle.answers.proofs.Promises.{one_refusal}
-use Rattle.plant_writer.specs.declared.Length.{Length}
+use Rattle.plant_writer.specs.declared.Length.{Length as TableLength}
 use Rattle.answers.specs.declared.Refusal.{Refusal}
 use Rattle.plant_writer.specs.OnPaper.{wrote}
 use Rattle.rule.specs.declared.Length.{Length}
@@ -11,7 +11,7 @@ use Rattle.walk.specs.declared.Lengths.{Lengths}
 use Rattle.witness.specs.OnPaper.{witnessed}
 use Rattle.refusals.specs.Judged.{accepted_taken}
 
-pub one_wrote : (a b : Result Length Refusal) → wrote a ≡ wrote b → a ≡ b
+pub one_wrote : (a b : Result TableLength Refusal) → wrote a ≡ wrote b → a ≡ b
 one_wrote (Ok i) (Ok j) same = let bytes : i.bytes ≡ j.bytes = cc in λ k. Ok (record { bytes = bytes k })
 one_wrote (Ok i) (Err r) same = absurd (accepted_taken _ _ _ same)
 one_wrote (Err r) (Ok j) same = absurd (accepted_taken _ _ _ (sym same))

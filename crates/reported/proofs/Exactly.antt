@@ -63,7 +63,7 @@ decided_exactly claim v (Err x) y = (λ e. absurd (false≢true (ap accepts e)),
 decided_exactly claim v (Ok _) (Err y) = (λ e. absurd (false≢true (ap accepts e)), λ h. absurd (false≢true (ap is_correct h.1)))
 decided_exactly claim v (Ok _) (Ok _) = by (confirmed_by claim v)
   where
-    by : (b : Bool) → (cond b Accepted WrongVerdict ≡ Accepted) ↔ (((Ok tt) ≡ Ok tt) × ((Ok tt) ≡ Ok tt) × So b)
+    by : (b : Bool) → (cond b Accepted WrongVerdict ≡ Accepted) ↔ ((◌≡◌ {A = Result (Unit {0}) Failing} (Ok tt) (Ok tt)) × (◌≡◌ {A = Result (Unit {0}) Failing} (Ok tt) (Ok tt)) × So b)
     by true = (λ e. (refl, refl, refl), λ h. refl)
     by false = (λ e. absurd (false≢true (ap accepts e)), λ h. absurd (false≢true h.2))
 
@@ -76,7 +76,7 @@ unfolding report_checked
 checked_exactly claim k b = by (ltb 3 claim) refl (too_long claim k b)
   where
     by : (x : Bool) → ltb 3 claim ≡ x → (y : Bool)
-        → (cond x (Err (refused_at Value 0)) (cond y (Err (refused_at RunLength 0)) (Ok tt)) ≡ Ok tt) ↔ ((claim ≤ 3) × (y ≡ false))
+        → ◌≡◌ {A = Outcome} (cond x (Err (refused_at Value 0)) (cond y (Err (refused_at RunLength 0)) (Ok tt))) (Ok tt) ↔ ((claim ≤ 3) × (y ≡ false))
     by true e y = (λ g. absurd (false≢true (ap is_accepted g)), λ h. absurd (omega (arith, ltb-true 3 claim e, h.0)))
     by false e true = (λ g. absurd (false≢true (ap is_accepted g)), λ h. absurd (false≢true (sym h.1)))
     by false e false = (λ g. (ltb-false 3 claim e, refl), λ h. refl)

@@ -113,7 +113,7 @@ decided_verdict claim v (Err x) y = (λ e. other (wrong true x) WrongVerdict ref
 decided_verdict claim v (Ok _) (Err y) = (λ e. other (wrong false y) WrongVerdict refl e, λ h. unlike (Err y) (Ok tt) refl h.1)
 decided_verdict claim v (Ok _) (Ok _) = by (confirmed_by claim v)
   where
-    by : (b : Bool) → (cond b Accepted WrongVerdict ≡ WrongVerdict) ↔ (((Ok tt) ≡ Ok tt) × ((Ok tt) ≡ Ok tt) × (b ≡ false))
+    by : (b : Bool) → (cond b Accepted WrongVerdict ≡ WrongVerdict) ↔ ((◌≡◌ {A = Result (Unit {0}) Failing} (Ok tt) (Ok tt)) × (◌≡◌ {A = Result (Unit {0}) Failing} (Ok tt) (Ok tt)) × (b ≡ false))
     by true = (λ e. other Accepted WrongVerdict refl e, λ h. absurd (false≢true (sym h.2)))
     by false = (λ e. (refl, refl, refl), λ h. refl)
 
@@ -138,7 +138,7 @@ behind (Err r) j a l = (λ e. absurd (omega (arith, l, ap code e)), λ h. absurd
     taken (Ok _) = true
     taken (Err r) = false
 
-    refuses : Err r ≡ Ok tt → ⊥
+    refuses : ◌≡◌ {A = Outcome} (Err r) (Ok tt) → ⊥
     refuses e = false≢true (ap taken e)
 
 -- ---- the first rule that a run fails
