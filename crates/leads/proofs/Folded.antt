@@ -20,6 +20,17 @@ shared_by_fold x first n f =
     ap (λ (a : ℕ). fold (λ (s k : ℕ). bit_and s (f k)) x (range_with_len a n)) (let z : first ≡ first + 0 = omega arith in z)
     ∙ shared_from x first f 0 n x refl ∙ ap (λ (m : ℕ). shared_below x m (λ j. f (first + j))) (let z : 0 + n ≡ n = omega arith in z)
 
+-- from any number on
+union_range : (f : ℕ → ℕ) (i n r : ℕ) → r ≡ union_below i f → fold (λ (s k : ℕ). bit_or s (f k)) r (range_with_len i n) ≡ union_below (i + n) f
+union_range f i zero r e = e ∙ ap (λ (m : ℕ). union_below m f) (let z : i ≡ i + 0 = omega arith in z)
+union_range f i (suc n) r e =
+    union_range f (i + 1) n (bit_or r (f i)) (ap (λ (s : ℕ). bit_or s (f i)) e ∙ sym (union_more i f))
+    ∙ ap (λ (m : ℕ). union_below m f) (let z : i + 1 + n ≡ i + suc n = omega arith in z)
+
+pub union_by_range : (f : ℕ → ℕ) (n : ℕ) → fold (λ (s k : ℕ). bit_or s (f k)) 0 (range_with_len 0 n) ≡ union_below n f
+unfolding union_below
+union_by_range f n = union_range f 0 n 0 refl ∙ ap (λ (m : ℕ). union_below m f) (let z : 0 + n ≡ n = omega arith in z)
+
 -- each word with its place
 module _ (f : ℕ → ℕ → ℕ) (old : List ℕ) where
   abbrev at : ℕ → ℕ

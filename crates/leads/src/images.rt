@@ -42,12 +42,10 @@ fn reached_at(
     requires { (count ≤ 64) × (w < 64) }
     ensures { result ≡ reached_at next.now old.now (from_in leave.now) (to_in enter.now) count w }
 {
-    old[..count]
-        .iter()
-        .enumerate()
-        .fold(0, |reached, (v, held)| {
-            reached | moved(next, leave, enter, *held, v, w)
-        })
+    (0..count).fold(
+        0,
+        |reached, v| reached | moved(next, leave, enter, old[v], v, w),
+    )
 }
 
 // The same, cut to `kept`, the states that may stay; nothing is looked for where none may.

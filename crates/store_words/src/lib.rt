@@ -37,7 +37,16 @@ pub fn store_of(words: [u64; 1040]) -> Store
 {
     Store {
         count: words[0] as usize,
-        sheets: array::from_fn(|i| kept_at(&words, i)),
+        sheets: [
+            kept_at(&words, 0),
+            kept_at(&words, 1),
+            kept_at(&words, 2),
+            kept_at(&words, 3),
+            kept_at(&words, 4),
+            kept_at(&words, 5),
+            kept_at(&words, 6),
+            kept_at(&words, 7),
+        ],
     }
 }
 
