@@ -5,7 +5,7 @@ use mathlib.Core.List.{List, [], ◌∷◌}
 use mathlib.Core.Bool.{Bool, true, false, cond}
 use native.Mathlib.Omega.{arith}
 use native.Mathlib.Numerals.{add-one}
-use borrow.Author.Tests.{ltb-true}
+use borrow.Author.Tests.{ltb-true, ltb-false}
 use lib.Dec.{ltb}
 use lib.ListN.{length, take, drop, drop_of_length-le}
 use Rattle.std.specs.Prelude.{count_by}
@@ -24,6 +24,14 @@ module _ (ns : List Node) where
   pub ops_end : (i : ℕ) → length ns ≤ i → ops_of (drop i ns) ≡ []
   unfolding ops_of
   ops_end i h = ap ops_of (drop_of_length-le ns h)
+
+-- the array has no more of them
+pub stored_few : (r : Rule) → stored r ≤ 32
+stored_few r = go (ltb 32 r.len) refl
+  where
+    go : (b : Bool) → ltb 32 r.len ≡ b → cond b 32 r.len ≤ 32
+    go true e = omega arith
+    go false e = ltb-false 32 r.len e
 
 -- the nodes that stand in the array are those that the rule holds
 pub held_start : (r : Rule) → length r.nodes ≡ 32 → ops_of (take (stored r) r.nodes) ≡ held r

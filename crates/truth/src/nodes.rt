@@ -2,6 +2,7 @@
 ghost use Rattle.std.specs.Prelude.{◌≡◌, ◌*◌, ◌≤◌, ◌<◌, length};
 ghost use Rattle.truth.specs.Nodes.{named_of, leaf_of, own_of, made_of, word_at, node_filled, nodes_after, holds_of};
 
+pub use crate::tables::Holds;
 use std::array;
 use syntax::{Op, Rule};
 

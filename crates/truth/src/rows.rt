@@ -19,6 +19,7 @@ pub trait Asked {
 }
 
 // What it unfolds to where its value next is 0.
+#[derive(Clone, Copy)]
 pub struct Low;
 
 impl Asked for Low {
@@ -35,6 +36,7 @@ impl Asked for Low {
 }
 
 // And where that is 1.
+#[derive(Clone, Copy)]
 pub struct High;
 
 impl Asked for High {
@@ -52,6 +54,7 @@ impl Asked for High {
 }
 
 // The operand of an X.
+#[derive(Clone, Copy)]
 pub struct Operand;
 
 impl Asked for Operand {
@@ -63,6 +66,7 @@ impl Asked for Operand {
 }
 
 // Whether it is settled: an until that is true where its right side holds, a release that is false where it does not.
+#[derive(Clone, Copy)]
 pub struct Settled;
 
 impl Asked for Settled {
