@@ -1,7 +1,7 @@
 // A fixed machine in use: a row and an event give the next row, and what the lamp shows there. Any bytes may be handed in; what is read of them is checked.
 #![tactic(auto)]
 
-ghost use Rattle.std.specs.Prelude.{◌≡◌, ◌/◌, ◌<◌, ◌≤◌, length, get_or};
+ghost use Rattle.std.specs.Prelude.{leb, ◌&&◌, ◌≡◌, ◌/◌, ◌<◌, ◌≤◌, length, get_or};
 ghost use Rattle.machine_lookup.specs.Lookup.{stand_at, looked_up};
 ghost use Rattle.machine_lookup.specs.Shape.{rows_by, shape_of, firsts, first_of};
 
@@ -89,6 +89,13 @@ pub fn first_of(event: Event) -> usize
     ((firsts_of(event.see) >> past) % 256) as usize
 }
 
+// Whether a row can show these: a verdict, and no more states than a table has.
+fn can_show(verdict: u8, left: u8) -> bool
+    ensures { result ≡ (leb verdict 3 && leb left 64) }
+{
+    verdict <= 3 && left <= 64
+}
+
 // What the row that a cell holds shows, if it is one.
 pub fn stand_at(machine: &[u8], width: usize, rows: usize, cell: u8) -> Result<Stand, Refusal>
     requires { (2 ≤ width) × (width ≤ 56) × (rows ≡ length machine.now / width) }
@@ -101,7 +108,7 @@ pub fn stand_at(machine: &[u8], width: usize, rows: usize, cell: u8) -> Result<S
     let at = row * width;
     let verdict = machine[at];
     let left = machine[at + 1];
-    if verdict <= 3 && left <= 64 {
+    if can_show(verdict, left) {
         Ok(Stand { row, verdict, left })
     } else {
         Err(Refusal::at(Kind::Value, 0))
