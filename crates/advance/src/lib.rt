@@ -52,10 +52,11 @@ pub fn catch_up<'a>(
     ensures { result ≡ caught_up_by label.now next.now leave.now enter.now count live.now monitor missing }
 {
     let agree = labels::agreeing(label, 0, 0);
-    (0..missing).fold(
-        monitor,
-        |now, _| moved(next, leave, enter, count, live, now, agree),
-    )
+    let mut now = monitor;
+    for k in 0..missing {
+        now = moved(next, leave, enter, count, live, now, agree);
+    }
+    now
 }
 
 // An event, behind so many that are missing before it. Mostly none is, and then nothing but the event is looked at.

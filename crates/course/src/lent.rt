@@ -5,7 +5,7 @@ ghost use Rattle.moves.specs.Image.{image_of};
 ghost use Rattle.leads.specs.Halves.{from_in, to_in};
 ghost use Rattle.event_numbers.specs.Numbers.{number_of};
 ghost use Rattle.sides.specs.Held.{model_of, lamp_in};
-ghost use Rattle.sides.specs.Sides.{sides_of, split_of, reached_by, taken_in};
+ghost use Rattle.sides.specs.Sides.{sides_of, split_of, reached_by, came_by, taken_in};
 
 use advance::take;
 use answers::{Lamp, Verdict};
@@ -38,6 +38,33 @@ fn restart(next: &[u64], ways: &Ways, live: &[u64; 64], agree: u64, monitor: &mu
     monitor.breaks = split(&reached.words, agree, &ways.holds, false);
 }
 
+// Any event, by value: what is then held is stored. It stands apart, since a function pays at its start for what it holds by value, and most events need none of it.
+fn take_whole(
+    label: &[u16],
+    next: &[u64],
+    ways: &Ways,
+    live: &[u64; 64],
+    gap: u64,
+    event: Event,
+    monitor: &mut Monitor,
+)
+    requires { (length label.now ≤ 64) × (ways.now.count ≤ 64) }
+    ensures { monitor.new ≡ came_by label.now next.now ways.now.leave ways.now.enter ways.now.holds ways.now.count live.now monitor.old gap event }
+{
+    *monitor = take(
+        label,
+        next,
+        &ways.leave,
+        &ways.enter,
+        &ways.holds,
+        ways.count,
+        live,
+        *monitor,
+        gap,
+        event,
+    );
+}
+
 // An event whose number is in turn, behind those that are missing before it; its number is answered. Mostly nothing is missing and it is not the first: then both
 // sets move, at a restart as one.
 pub fn take_lent(
@@ -65,18 +92,7 @@ pub fn take_lent(
         monitor.breaks = led(next, ways, live, agree, &monitor.breaks.words);
         return number;
     }
-    *monitor = take(
-        label,
-        next,
-        &ways.leave,
-        &ways.enter,
-        &ways.holds,
-        ways.count,
-        live,
-        *monitor,
-        gap,
-        event,
-    );
+    take_whole(label, next, ways, live, gap, event, monitor);
     number
 }
 
